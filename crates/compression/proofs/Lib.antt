@@ -1,0 +1,6 @@
+pub mod Keyed
+pub mod Rounds
+pub mod Schedules
+pub mod Sigma
+pub mod Tables
+pub mod WordBytes

@@ -1,0 +1,8 @@
+use native.Mathlib.Omega.{arith}
+use Rattle.compression.specs.Blake2b.{work, IV}
+use Rattle.compression.proofs.WordBytes.{eight}
+use Rattle.compression.proofs.blake2b.work_vector.Needs as need
+
+pub returns : need.returns
+unfolding work IV
+returns c = eight (c .args .h .now) _ (omega arith)

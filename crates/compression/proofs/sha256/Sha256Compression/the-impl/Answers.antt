@@ -1,0 +1,13 @@
+use mathlib.Core.Path.{refl}
+use borrow.Author.Needs.{needs}
+use Rattle.compression.specs.Keyed.{sha256}
+use Rattle.compression.specs.Sha256.{hashed, next-hash, sums}
+use Rattle.compression.proofs.sha256.Sha256Compression.the-impl.Needs as need
+
+pub sized-law : need.sized-law
+unfolding sha256 hashed next-hash sums
+sized-law key chaining message = refl
+
+pub bytes-law : need.bytes-law
+unfolding sha256 hashed next-hash sums
+bytes-law key chaining message = search needs

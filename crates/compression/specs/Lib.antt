@@ -1,0 +1,5 @@
+pub mod Compress
+pub mod Words
+pub mod Keyed
+pub mod Sha256
+pub mod Blake2b
