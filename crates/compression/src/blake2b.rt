@@ -6,7 +6,10 @@ ghost use lib.ListN.{length, getD};
 ghost use Rattle.refusal.specs.Verdict.{left};
 ghost use Rattle.compression.specs.Compress.{F-verdict};
 ghost use Rattle.compression.specs.Blake2b.{half, G, picked, columns, diagonals, rounds, work, folded, F, compressed};
+ghost use Rattle.compression.specs.Blake2b.{IV as initial};
+ghost use Rattle.compression.specs.Roots.{IV-from-square-roots};
 ghost use Rattle.compression.specs.Keyed.{blake2b};
+ghost use Rattle.std.specs.shelf.Maps.{nth};
 use crate::Compression;
 use crate::words::keyed;
 use crate::words::load_le;
@@ -38,6 +41,14 @@ const IV: [u64; 8] = [
     0x1f83d9abfb41bd6b,
     0x5be0cd19137e2179,
 ];
+
+// The word i of the initial value, where there is one.
+pub fn initial_value(i: usize) -> Option<u64>
+    ensures value { λ r. ⌜ r ≡ nth initial i ⌝ }
+    ensures roots { λ _. ⌜ IV-from-square-roots ⌝ }
+{
+    IV.get(i).copied()
+}
 
 // The first half of G, with the message word x.
 fn first_half(v: &mut [u64; 16], a: usize, b: usize, c: usize, d: usize, x: u64)

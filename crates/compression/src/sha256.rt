@@ -5,7 +5,10 @@ ghost use Prim.Native.Nat.{ℕ, _+_, _-_, _<_, _≤_};
 ghost use lib.ListN.{length, getD, take, set};
 ghost use Rattle.compression.specs.Words.{words, from-be};
 ghost use Rattle.compression.specs.Sha256.{Ch, Maj, Σ0, Σ1, σ0, σ1, next, schedule, round, rounds, variables, sums, hashed};
+ghost use Rattle.compression.specs.Sha256.{K as constants};
+ghost use Rattle.compression.specs.Roots.{First-64-primes, K-from-cube-roots};
 ghost use Rattle.compression.specs.Keyed.{sha256};
+ghost use Rattle.std.specs.shelf.Maps.{nth};
 use crate::Compression;
 use crate::words::keyed;
 use crate::words::load_be;
@@ -79,6 +82,15 @@ const K: [u32; 64] = [
     0xbef9a3f7,
     0xc67178f2,
 ];
+
+// The constant of the round t, where there is such a round.
+pub fn round_constant(t: usize) -> Option<u32>
+    ensures value { λ r. ⌜ r ≡ nth constants t ⌝ }
+    ensures roots { λ _. ⌜ K-from-cube-roots ⌝ }
+    ensures primes { λ _. ⌜ First-64-primes ⌝ }
+{
+    K.get(t).copied()
+}
 
 // the working variables of a round
 #[derive(Clone, Copy)]
