@@ -1,3 +1,4 @@
+pub mod Accepts
 pub mod Constants
 pub mod Keyed
 pub mod Rounds

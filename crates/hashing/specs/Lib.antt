@@ -1,0 +1,2 @@
+pub mod Sha2
+pub mod Blake2
