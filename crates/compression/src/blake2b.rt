@@ -1,13 +1,14 @@
 // Function F of BLAKE2b (RFC 7693), and kind 2: F keyed by the first half of its block.
 ghost use mathlib.Core.Bool.{Bool};
 ghost use mathlib.Core.Path.{_≡_};
-ghost use Prim.Native.Nat.{ℕ, _<_};
+ghost use Prim.Native.Nat.{ℕ, _<_, _≤_};
 ghost use lib.ListN.{length, getD};
 ghost use Rattle.refusal.specs.Verdict.{left};
 ghost use Rattle.compression.specs.Compress.{F-verdict};
 ghost use Rattle.compression.specs.Blake2b.{half, G, picked, columns, diagonals, rounds, work, folded, F, compressed};
 ghost use Rattle.compression.specs.Blake2b.{IV as initial};
 ghost use Rattle.compression.specs.Roots.{IV-from-square-roots};
+ghost use Rattle.compression.specs.Examples.{Blake2b-example};
 ghost use Rattle.compression.specs.Keyed.{blake2b};
 ghost use Rattle.std.specs.shelf.Maps.{nth};
 use crate::Compression;
@@ -42,12 +43,27 @@ const IV: [u64; 8] = [
     0x5be0cd19137e2179,
 ];
 
-// The word i of the initial value, where there is one.
+// What RFC 7693 says of the initial value, and its example of one block: a proof and no code.
+fn as_published()
+    ensures roots { λ _. ⌜ IV-from-square-roots ⌝ }
+    ensures example { λ _. ⌜ Blake2b-example ⌝ }
+{}
+
+fn initial_at(i: usize) -> Option<u64>
+    ensures { λ r. ⌜ r ≡ nth initial i ⌝ }
+{
+    IV.get(i).copied()
+}
+
+// The word i of the initial value, where there is one. Each word is from the square root of its prime, and the
+// definition that F is proved to meet gives the published example.
 pub fn initial_value(i: usize) -> Option<u64>
     ensures value { λ r. ⌜ r ≡ nth initial i ⌝ }
     ensures roots { λ _. ⌜ IV-from-square-roots ⌝ }
+    ensures example { λ _. ⌜ Blake2b-example ⌝ }
 {
-    IV.get(i).copied()
+    as_published();
+    initial_at(i)
 }
 
 // The first half of G, with the message word x.
@@ -188,8 +204,20 @@ fn f(h: &[u64; 8], m: &[u64; 16], t: u128, last: bool) -> [u64; 8]
     fold(h, &v)
 }
 
-// Function F on bytes: the state of 64 bytes after a block of 128, where `t` counts the bytes so far and `last` says
-// that no block follows.
+// F on bytes.
+fn f_bytes(chaining: &[u8], block: &[u8], t: u128, last: bool, place: &mut [u8])
+    requires { ⌜ length (now chaining) ≡ 64 ⌝ ∗ ⌜ length (now block) ≡ 128 ⌝ ∗ ⌜ length (now place) ≡ 64 ⌝ }
+    ensures { λ _. ⌜ now (place .exit) ≡ compressed (now (chaining .entry)) (now (block .entry)) t last ⌝ }
+{
+    let mut h = [0u64; 8];
+    load_le(chaining, &mut h);
+    let mut m = [0u64; 16];
+    load_le(block, &mut m);
+    store_le(&f(&h, &m, t, last), place);
+}
+
+// Function F: the state of 64 bytes after a block of 128, where `t` counts the message's bytes up to the block's end and
+// `last` says that no block follows.
 pub fn blake2b_f(
     chaining: &[u8],
     block: &[u8],
@@ -203,12 +231,18 @@ pub fn blake2b_f(
     if chaining.len() != 64 || block.len() != 128 || place.len() != 64 {
         return Err(Refusal::PlaceLength);
     }
-    let mut h = [0u64; 8];
-    load_le(chaining, &mut h);
-    let mut m = [0u64; 16];
-    load_le(block, &mut m);
-    store_le(&f(&h, &m, t, last), place);
+    f_bytes(chaining, block, t, last, place);
     Ok(())
+}
+
+// F at the offset counter 128, of the block that a key and a message block make.
+fn f_keyed(key: &[u8], chaining: &[u8], message: &[u8], place: &mut [u8])
+    requires { ⌜ length (now key) ≤ 64 ⌝ ∗ ⌜ length (now chaining) ≡ 64 ⌝ ∗ ⌜ length (now message) ≡ 64 ⌝ ∗ ⌜ length (now place) ≡ 64 ⌝ }
+    ensures { λ _. ⌜ now (place .exit) ≡ blake2b (now (key .entry)) (now (chaining .entry)) (now (message .entry)) ⌝ }
+{
+    let mut block = [0u8; 128];
+    keyed(key, message, &mut block);
+    f_bytes(chaining, &block, 128, false, place);
 }
 
 pub struct Blake2b {}
@@ -252,8 +286,7 @@ pub impl Compression for Blake2b as Blake2bCompression {
         if chaining.len() != 64 || message.len() != 64 || place.len() != 64 {
             return Err(Refusal::PlaceLength);
         }
-        let mut block = [0u8; 128];
-        keyed(key, message, &mut block);
-        blake2b_f(chaining, &block, 128, false, place)
+        f_keyed(key, chaining, message, place);
+        Ok(())
     }
 }

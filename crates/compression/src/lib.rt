@@ -7,8 +7,6 @@ ghost use lib.ListN.{length};
 ghost use Rattle.std.specs.shelf.Digits.{Under};
 ghost use Rattle.refusal.specs.Verdict.{left};
 ghost use Rattle.compression.specs.Compress.{compress-verdict};
-ghost use Rattle.compression.specs.Examples.{Sha256-example, Blake2b-example};
-ghost use mathlib.Core.Bool.{true};
 use refusal::Refusal;
 
 mod blake2b;
@@ -67,13 +65,4 @@ pub trait Compression {
     ) -> Result<(), Refusal>
         ensures verdict { λ r. ⌜ r ≡ compress-verdict block shortest longest (now (key .entry)) (now (chaining .entry)) (now (message .entry)) (now (place .entry)) ⌝ }
         ensures after { λ r. ⌜ now (place .exit) ≡ left r (now (place .entry)) (meaning (now (key .entry)) (now (chaining .entry)) (now (message .entry))) ⌝ };
-}
-
-// That the definitions give the published results of the standards' one-block examples.
-pub fn examples_hold() -> bool
-    ensures told { λ r. ⌜ r ≡ true ⌝ }
-    ensures sha256 { λ _. ⌜ Sha256-example ⌝ }
-    ensures blake2b { λ _. ⌜ Blake2b-example ⌝ }
-{
-    true
 }

@@ -7,6 +7,7 @@ ghost use Rattle.compression.specs.Words.{words, from-be};
 ghost use Rattle.compression.specs.Sha256.{Ch, Maj, Σ0, Σ1, σ0, σ1, next, schedule, round, rounds, variables, sums, hashed};
 ghost use Rattle.compression.specs.Sha256.{K as constants};
 ghost use Rattle.compression.specs.Roots.{First-64-primes, K-from-cube-roots};
+ghost use Rattle.compression.specs.Examples.{Sha256-example};
 ghost use Rattle.compression.specs.Keyed.{sha256};
 ghost use Rattle.std.specs.shelf.Maps.{nth};
 use crate::Compression;
@@ -83,13 +84,29 @@ const K: [u32; 64] = [
     0xc67178f2,
 ];
 
-// The constant of the round t, where there is such a round.
+// What FIPS 180-4 says of the constants, and its example of one block: a proof and no code.
+fn as_published()
+    ensures roots { λ _. ⌜ K-from-cube-roots ⌝ }
+    ensures primes { λ _. ⌜ First-64-primes ⌝ }
+    ensures example { λ _. ⌜ Sha256-example ⌝ }
+{}
+
+fn constant_at(t: usize) -> Option<u32>
+    ensures { λ r. ⌜ r ≡ nth constants t ⌝ }
+{
+    K.get(t).copied()
+}
+
+// The constant of the round t, where there is such a round. Each constant is from the cube root of its prime, the
+// primes are the first 64, and the definition that the compression is proved to meet gives the published example.
 pub fn round_constant(t: usize) -> Option<u32>
     ensures value { λ r. ⌜ r ≡ nth constants t ⌝ }
     ensures roots { λ _. ⌜ K-from-cube-roots ⌝ }
     ensures primes { λ _. ⌜ First-64-primes ⌝ }
+    ensures example { λ _. ⌜ Sha256-example ⌝ }
 {
-    K.get(t).copied()
+    as_published();
+    constant_at(t)
 }
 
 // the working variables of a round
@@ -282,6 +299,16 @@ fn hash_block(chaining: &[u8], block: &[u8], place: &mut [u8])
     store_be(&add_up(v, all_rounds(v, &w)), place);
 }
 
+// The same, of the block that a key and a message block make.
+fn hash_keyed(key: &[u8], chaining: &[u8], message: &[u8], place: &mut [u8])
+    requires { ⌜ length (now key) ≤ 32 ⌝ ∗ ⌜ length (now chaining) ≡ 32 ⌝ ∗ ⌜ length (now message) ≡ 32 ⌝ ∗ ⌜ length (now place) ≡ 32 ⌝ }
+    ensures { λ _. ⌜ now (place .exit) ≡ sha256 (now (key .entry)) (now (chaining .entry)) (now (message .entry)) ⌝ }
+{
+    let mut block = [0u8; 64];
+    keyed(key, message, &mut block);
+    hash_block(chaining, &block, place);
+}
+
 pub struct Sha256 {}
 
 pub impl Compression for Sha256 as Sha256Compression {
@@ -323,9 +350,7 @@ pub impl Compression for Sha256 as Sha256Compression {
         if chaining.len() != 32 || message.len() != 32 || place.len() != 32 {
             return Err(Refusal::PlaceLength);
         }
-        let mut block = [0u8; 64];
-        keyed(key, message, &mut block);
-        hash_block(chaining, &block, place);
+        hash_keyed(key, chaining, message, place);
         Ok(())
     }
 }

@@ -29,5 +29,6 @@ state-after (suc n) p = compressed (state-after n p) (block p n) (128 * (n + 1))
 unfoldable pub final-state : (last n : ℕ) → List ℕ → List ℕ
 final-state last n p = compressed (state-after last p) (block p last) n true
 
-unfoldable pub blake2b : List ℕ → List ℕ
+-- the digest
+abbrev pub blake2b : List ℕ → List ℕ
 blake2b m = final-state (length (padded m) / 128 - 1) (length m) (padded m)

@@ -21,5 +21,6 @@ unfoldable pub hash-after : ℕ → List ℕ → List ℕ
 hash-after zero p = joined (to-be 4) H0
 hash-after (suc n) p = hashed (hash-after n p) (take 64 (drop (64 * n) p))
 
-unfoldable pub sha256 : List ℕ → List ℕ
+-- the digest
+abbrev pub sha256 : List ℕ → List ℕ
 sha256 m = hash-after (length (padded m) / 64) (padded m)

@@ -81,7 +81,7 @@ const H0: [u8; 64] = [
 
 // The message with zeros behind it, up to a whole block; at least one block.
 fn pad(heap: Global, message: &[u8]) -> Result<Vec<u8>, AllocError>
-    ensures { λ r. ⌜ made r (λ v. vec-items v ≡ padding (now (message .entry))) ⌝ }
+    ensures { λ r. ⌜ made r (λ v. (vec-items v ≡ padding (now (message .entry))) × (128 ≤ length (vec-items v))) ⌝ }
 {
     let n = message.len();
     let zeros = if n == 0 { 128 } else { (128 - n % 128) % 128 };

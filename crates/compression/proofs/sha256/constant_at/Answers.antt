@@ -5,12 +5,11 @@ use lib.Dec.{ltb}
 use lib.ListN.{getD}
 use Rattle.std.specs.declared.option.Option.the-variants.{Some, None}
 use Rattle.compression.specs.Sha256.{K}
-use Rattle.compression.proofs.Constants.{K-roots, first-64-primes}
 use Rattle.compression.proofs.Tables.{nth-is}
-use Rattle.compression.proofs.sha256.round_constant.Needs as need
+use Rattle.compression.proofs.sha256.constant_at.Needs as need
 
 pub returns : need.returns
 unfolding K
 returns c =
     let found : c .copied .result ≡ cond (ltb (c .args .t) 64) (Some (getD K (c .args .t) 0)) None = search needs in
-    record { value = found ∙ nth-is K (c .args .t); roots = K-roots; primes = first-64-primes }
+    found ∙ nth-is K (c .args .t)

@@ -5,12 +5,11 @@ use lib.Dec.{ltb}
 use lib.ListN.{getD}
 use Rattle.std.specs.declared.option.Option.the-variants.{Some, None}
 use Rattle.compression.specs.Blake2b.{IV}
-use Rattle.compression.proofs.Constants.{IV-roots}
 use Rattle.compression.proofs.Tables.{nth-is}
-use Rattle.compression.proofs.blake2b.initial_value.Needs as need
+use Rattle.compression.proofs.blake2b.initial_at.Needs as need
 
 pub returns : need.returns
 unfolding IV
 returns c =
     let found : c .copied .result ≡ cond (ltb (c .args .i) 8) (Some (getD IV (c .args .i) 0)) None = search needs in
-    record { value = found ∙ nth-is IV (c .args .i); roots = IV-roots }
+    found ∙ nth-is IV (c .args .i)
