@@ -33,11 +33,11 @@ entry : (e w : ℕ) → List ℕ → ℕ → Bool
 entry e w ks i = root e w (getD primes i 0) (getD ks i 0) (whole e 20 (getD primes i 0))
 
 all-of-K : below (entry 3 32 K) 64 ≡ true
-unfolding below entry root whole primes K
+unfolding below entry root whole primes
 all-of-K = refl
 
 all-of-IV : below (entry 2 64 IV) 8 ≡ true
-unfolding below entry root whole primes IV
+unfolding below entry root whole primes
 all-of-IV = refl
 
 pub K-roots : K-from-cube-roots

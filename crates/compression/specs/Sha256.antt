@@ -42,7 +42,7 @@ abbrev pub σ1 : ℕ → ℕ
 σ1 x = bitXor (bitXor (ROTR 17 x) (ROTR 19 x)) (SHR 10 x)
 
 -- 4.2.2: constants
-unfoldable pub K : List ℕ
+abbrev pub K : List ℕ
 K =
     0x428a2f98 ∷ 0x71374491 ∷ 0xb5c0fbcf ∷ 0xe9b5dba5 ∷ 0x3956c25b ∷ 0x59f111f1 ∷ 0x923f82a4 ∷ 0xab1c5ed5
     ∷ 0xd807aa98 ∷ 0x12835b01 ∷ 0x243185be ∷ 0x550c7dc3 ∷ 0x72be5d74 ∷ 0x80deb1fe ∷ 0x9bdc06a7 ∷ 0xc19bf174
@@ -64,7 +64,7 @@ schedule zero M = M
 schedule (suc n) M = schedule n M ++ (next (n + 16) (schedule n M) ∷ [])
 
 -- step 2: the working variables, from the hash value before
-unfoldable pub variables : List ℕ → Variables
+abbrev pub variables : List ℕ → Variables
 variables H =
     record { a = getD H 0 0; b = getD H 1 0; c = getD H 2 0; d = getD H 3 0; e = getD H 4 0; f = getD H 5 0; g = getD H 6 0; h = getD H 7 0 }
 
@@ -85,7 +85,7 @@ rounds zero W v = v
 rounds (suc n) W v = round (rounds n W v) (getD K n 0) (getD W n 0)
 
 -- step 4: the hash value after, from the variables v at the start and u after the rounds
-unfoldable pub sums : Variables → Variables → List ℕ
+abbrev pub sums : Variables → Variables → List ℕ
 sums v u =
     (v .a ⊞ u .a) ∷ (v .b ⊞ u .b) ∷ (v .c ⊞ u .c) ∷ (v .d ⊞ u .d) ∷ (v .e ⊞ u .e) ∷ (v .f ⊞ u .f) ∷ (v .g ⊞ u .g) ∷ (v .h ⊞ u .h) ∷ []
 

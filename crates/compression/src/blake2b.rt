@@ -6,11 +6,13 @@ ghost use lib.ListN.{length, getD};
 ghost use Rattle.refusal.specs.Verdict.{left};
 ghost use Rattle.compression.specs.Compress.{F-verdict};
 ghost use Rattle.compression.specs.Blake2b.{half, G, picked, columns, diagonals, rounds, work, folded, F, compressed};
-ghost use Rattle.compression.specs.Blake2b.{IV as initial};
+ghost use Rattle.compression.specs.Blake2b.{IV as iv};
 ghost use Rattle.compression.specs.Roots.{IV-from-square-roots};
 ghost use Rattle.compression.specs.Examples.{Blake2b-example};
 ghost use Rattle.compression.specs.Keyed.{blake2b};
-ghost use Rattle.std.specs.shelf.Maps.{nth};
+ghost use Rattle.std.specs.declared.option.Option.the-variants.{Some, None};
+ghost use mathlib.Core.Bool.{cond};
+ghost use lib.Dec.{ltb};
 use crate::Compression;
 use crate::words::keyed;
 use crate::words::load_le;
@@ -49,21 +51,23 @@ fn as_published()
     ensures example { λ _. ⌜ Blake2b-example ⌝ }
 {}
 
-fn initial_at(i: usize) -> Option<u64>
-    ensures { λ r. ⌜ r ≡ nth initial i ⌝ }
+// The word i of the initial value.
+fn initial(i: usize) -> u64
+    requires { ⌜ i < 8 ⌝ }
+    ensures { λ r. ⌜ r ≡ getD iv i 0 ⌝ }
 {
-    IV.get(i).copied()
+    IV[i]
 }
 
 // The word i of the initial value, where there is one. Each word is from the square root of its prime, and the
 // definition that F is proved to meet gives the published example.
 pub fn initial_value(i: usize) -> Option<u64>
-    ensures value { λ r. ⌜ r ≡ nth initial i ⌝ }
+    ensures value { λ r. ⌜ r ≡ cond (ltb i 8) (Some (getD iv i 0)) None ⌝ }
     ensures roots { λ _. ⌜ IV-from-square-roots ⌝ }
     ensures example { λ _. ⌜ Blake2b-example ⌝ }
 {
     as_published();
-    initial_at(i)
+    if i < 8 { Some(initial(i)) } else { None }
 }
 
 // The first half of G, with the message word x.

@@ -9,7 +9,9 @@ ghost use Rattle.compression.specs.Sha256.{K as constants};
 ghost use Rattle.compression.specs.Roots.{First-64-primes, K-from-cube-roots};
 ghost use Rattle.compression.specs.Examples.{Sha256-example};
 ghost use Rattle.compression.specs.Keyed.{sha256};
-ghost use Rattle.std.specs.shelf.Maps.{nth};
+ghost use Rattle.std.specs.declared.option.Option.the-variants.{Some, None};
+ghost use mathlib.Core.Bool.{cond};
+ghost use lib.Dec.{ltb};
 use crate::Compression;
 use crate::words::keyed;
 use crate::words::load_be;
@@ -91,22 +93,24 @@ fn as_published()
     ensures example { λ _. ⌜ Sha256-example ⌝ }
 {}
 
-fn constant_at(t: usize) -> Option<u32>
-    ensures { λ r. ⌜ r ≡ nth constants t ⌝ }
+// The constant of the round t.
+fn constant(t: usize) -> u32
+    requires { ⌜ t < 64 ⌝ }
+    ensures { λ r. ⌜ r ≡ getD constants t 0 ⌝ }
 {
-    K.get(t).copied()
+    K[t]
 }
 
 // The constant of the round t, where there is such a round. Each constant is from the cube root of its prime, the
 // primes are the first 64, and the definition that the compression is proved to meet gives the published example.
 pub fn round_constant(t: usize) -> Option<u32>
-    ensures value { λ r. ⌜ r ≡ nth constants t ⌝ }
+    ensures value { λ r. ⌜ r ≡ cond (ltb t 64) (Some (getD constants t 0)) None ⌝ }
     ensures roots { λ _. ⌜ K-from-cube-roots ⌝ }
     ensures primes { λ _. ⌜ First-64-primes ⌝ }
     ensures example { λ _. ⌜ Sha256-example ⌝ }
 {
     as_published();
-    constant_at(t)
+    if t < 64 { Some(constant(t)) } else { None }
 }
 
 // the working variables of a round
@@ -184,10 +188,10 @@ fn four_rounds<const T: usize>(v: Variables, w: &[u32; 64]) -> Variables
     requires { ⌜ T + 4 ≤ 64 ⌝ }
     ensures { λ r. ⌜ ((v₀ : Variables) → v ≡ rounds T (now (w .entry)) v₀ → r ≡ rounds (T + 4) (now (w .entry)) v₀) ⌝ }
 {
-    let v = one_round(v, K[T], w[T]);
-    let v = one_round(v, K[T + 1], w[T + 1]);
-    let v = one_round(v, K[T + 2], w[T + 2]);
-    let v = one_round(v, K[T + 3], w[T + 3]);
+    let v = one_round(v, constant(T), w[T]);
+    let v = one_round(v, constant(T + 1), w[T + 1]);
+    let v = one_round(v, constant(T + 2), w[T + 2]);
+    let v = one_round(v, constant(T + 3), w[T + 3]);
     v
 }
 

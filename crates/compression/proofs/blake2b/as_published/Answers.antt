@@ -5,5 +5,5 @@ use Rattle.compression.proofs.Constants.{IV-roots}
 use Rattle.compression.proofs.blake2b.as_published.Needs as need
 
 pub returns : need.returns
-unfolding words IV SIGMA half G picked columns diagonals rounds work start folded F compressed
+unfolding words SIGMA half G picked columns diagonals rounds work start folded F compressed
 returns c = record { roots = IV-roots; example = refl }

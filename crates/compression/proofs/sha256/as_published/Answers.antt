@@ -5,5 +5,5 @@ use Rattle.compression.proofs.Constants.{K-roots, first-64-primes}
 use Rattle.compression.proofs.sha256.as_published.Needs as need
 
 pub returns : need.returns
-unfolding words K next schedule variables T1 T2 round rounds sums next-hash hashed
+unfolding words next schedule T1 T2 round rounds next-hash hashed
 returns c = record { roots = K-roots; primes = first-64-primes; example = refl }
