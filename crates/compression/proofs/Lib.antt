@@ -1,5 +1,7 @@
 pub mod Accepts
+pub mod Choose
 pub mod Constants
+pub mod FourLanes
 pub mod Keyed
 pub mod Rounds
 pub mod Schedules

@@ -1,41 +1,44 @@
--- One word of SHA-256's schedule more. Assumes nothing.
-use mathlib.Core.Path.{_≡_, refl, sym, ap, ap₂, _∙_, subst}
-use mathlib.Core.List.{List, [], _∷_, _++_}
-use Prim.Native.Nat.{ℕ, suc, _+_, _-_, _<_, _≤_}
+-- SHA-256's schedule, continued from its last words alone. Assumes nothing.
+use mathlib.Core.Path.{_≡_, refl, sym, ap, ap₂, _∙_}
+use mathlib.Core.List.{List, [], _∷_, _++_, append-assoc}
+use Prim.Native.Nat.{ℕ, zero, suc, _+_, _-_, _≤_}
 use native.Mathlib.Omega.{arith}
-use lib.ListN.{length, take, set, getD, length-set}
-use Rattle.std.proofs.shelf.Lists.{take-more-set, getD-take}
-use Rattle.compression.specs.Sha256.{_⊞_, next, schedule, σ0, σ1}
+use lib.ListN.{length, getD}
+use Rattle.std.proofs.shelf.Lists.{getD-append-right}
+use Rattle.compression.specs.Sha256.{_⊞_, next, schedule}
 
-module _ (w : List ℕ) (t : ℕ) (low : 16 ≤ t) (high : t < length w) where
-  -- the next word is read from the words before it
-  pub next-of : ((σ1 (getD w (t - 2) 0) ⊞ getD w (t - 7) 0) ⊞ σ0 (getD w (t - 15) 0)) ⊞ getD w (t - 16) 0 ≡ next t (take t w)
+module _ (p : List ℕ) (n : ℕ) (long : length p ≡ n) where
+  -- a word is read from the sixteen words before it
+  next-after : (q : List ℕ) (t : ℕ) → 16 ≤ t → next (n + t) (p ++ q) ≡ next t q
   unfolding next
-  next-of =
-      let a : t - 2 < t = omega arith in
-      let b : t - 7 < t = omega arith in
-      let c : t - 15 < t = omega arith in
-      let d : t - 16 < t = omega arith in
-      rw (getD-take t w (t - 2) 0 a, getD-take t w (t - 7) 0 b, getD-take t w (t - 15) 0 c, getD-take t w (t - 16) 0 d)
+  next-after q t low =
+      let at : (j : ℕ) → j ≤ t → getD (p ++ q) (n + t - j) 0 ≡ getD q (t - j) 0 =
+      λ j h. getD-append-right p q n (n + t - j) 0 long (omega arith) ∙ ap (λ i. getD q i 0) (omega arith) in
+      rw (at 2 (omega arith), at 7 (omega arith), at 15 (omega arith), at 16 (omega arith))
 
-  schedule-more : (m : List ℕ) (y : ℕ) → take t w ≡ schedule (t - 16) m → y ≡ next t (take t w) → take (t + 1) (set w t y) ≡ schedule (t + 1 - 16) m
+  -- so the schedule goes on from its last words as from a block
+  pub schedule-after : (q m : List ℕ) → p ++ q ≡ schedule n m → (k j : ℕ) → n + k ≡ j → p ++ schedule k q ≡ schedule j m
   unfolding schedule
-  schedule-more m y e f =
-      let n : t + 1 - 16 ≡ suc (t - 16) = omega arith in
-      let k : t ≡ t - 16 + 16 = omega arith in
-      take-more-set w t y high
-      ∙ ap₂ (λ x v. x ++ (v ∷ [])) e (f ∙ ap₂ next k e)
-      ∙ ap (λ j. schedule j m) (sym n)
+  schedule-after q m e zero j s = let i : n ≡ j = omega arith in e ∙ ap (λ i. schedule i m) i
+  schedule-after q m e (suc k) j s =
+      let ih = schedule-after q m e k (n + k) refl in
+      let i : suc (n + k) ≡ j = omega arith in
+      let t : n + (k + 16) ≡ n + k + 16 = omega arith in
+      sym (append-assoc p (schedule k q) _)
+      ∙ ap₂ (λ x v. x ++ (v ∷ [])) ih (sym (next-after (schedule k q) (k + 16) (omega arith)) ∙ ap₂ next t ih)
+      ∙ ap (λ i. schedule i m) i
 
--- the first t words of w are the schedule of the block m, and there is room for 64
-pub record Scheduled (w m : List ℕ) (t : ℕ) : Type 0 where
-  pub room : length w ≡ 64
-  pub upto : take t w ≡ schedule (t - 16) m
+module _ (m : List ℕ) where
+  -- one word more
+  more : (n : ℕ) (w : List ℕ) (x : ℕ) → w ≡ schedule n m → x ≡ next (n + 16) w → w ++ (x ∷ []) ≡ schedule (suc n) m
+  unfolding schedule
+  more n w x e f = ap₂ (λ w v. w ++ (v ∷ [])) e (f ∙ ap (next (n + 16)) e)
 
-pub scheduled-more : (w w′ m : List ℕ) (t u : ℕ) → 16 ≤ t → t < 64 → t + 1 ≡ u → w′ ≡ set w t (next t (take t w)) → Scheduled w m t → Scheduled w′ m u
-scheduled-more w w′ m t u low high e f s =
-    let lt : t < length w = omega (arith, s .room) in
-    record {
-      room = ap length f ∙ simp length-set (s .room);
-      upto = subst (λ n. take n w′ ≡ schedule (n - 16) m) e (ap (take (t + 1)) f ∙ schedule-more w t low lt m (next t (take t w)) (s .upto) refl);
-    }
+  -- four words more, each from those before it
+  pub schedule-four : (x y z u : ℕ) → x ≡ next 16 m → y ≡ next 17 (m ++ (x ∷ [])) → z ≡ next 18 ((m ++ (x ∷ [])) ++ (y ∷ [])) → u ≡ next 19 (((m ++ (x ∷ [])) ++ (y ∷ [])) ++ (z ∷ [])) → (((m ++ (x ∷ [])) ++ (y ∷ [])) ++ (z ∷ [])) ++ (u ∷ []) ≡ schedule 4 m
+  unfolding schedule
+  schedule-four x y z u e f g h = more 3 _ u (more 2 _ z (more 1 _ y (more 0 m x refl e) f) g) h
+
+-- the sum of a word, in the order of the vectors and in that of `next`
+pub turned : (x y z u : ℕ) → ((x ⊞ y) ⊞ z) ⊞ u ≡ ((u ⊞ z) ⊞ y) ⊞ x
+turned x y z u = omega arith

@@ -1,11 +1,10 @@
 // Kind 1: the compression function of SHA-256 (FIPS 180-4), keyed by the first half of its block.
 ghost use mathlib.Core.Path.{_≡_};
-ghost use mathlib.Core.List.{List, [], _∷_};
+ghost use mathlib.Core.List.{List, _++_, map};
 ghost use Prim.Native.Nat.{ℕ, _+_, _-_, _<_, _≤_};
-ghost use lib.ListN.{length, getD, take, set};
+ghost use lib.ListN.{length, getD, take, drop};
 ghost use Rattle.compression.specs.Words.{words, from-be};
-ghost use Rattle.compression.specs.Sha256.{Ch, Maj, Σ0, Σ1, σ0, σ1, next, schedule, round, rounds, variables, sums, hashed};
-ghost use Rattle.compression.specs.Sha256.{K as constants};
+ghost use Rattle.compression.specs.Sha256.{ROTR, Ch, Maj, Σ0, Σ1, σ0, σ1, K as constants, schedule, round, rounds, variables, sums, hashed};
 ghost use Rattle.compression.specs.Roots.{First-64-primes, K-from-cube-roots};
 ghost use Rattle.compression.specs.Examples.{Sha256-example};
 ghost use Rattle.compression.specs.Keyed.{sha256};
@@ -17,6 +16,7 @@ use crate::words::keyed;
 use crate::words::load_be;
 use crate::words::store_be;
 use refusal::Refusal;
+use std::simd::u32x4;
 
 // one constant for each round
 const K: [u32; 64] = [
@@ -126,10 +126,11 @@ pub(crate) struct Variables {
     pub(crate) h: u32,
 }
 
+// One operation less than (x & y) ^ (!x & z).
 fn ch(x: u32, y: u32, z: u32) -> u32
     ensures { λ r. ⌜ r ≡ Ch x y z ⌝ }
 {
-    (x & y) ^ (!x & z)
+    z ^ (x & (y ^ z))
 }
 
 fn maj(x: u32, y: u32, z: u32) -> u32
@@ -148,18 +149,6 @@ fn big_sigma1(x: u32) -> u32
     ensures { λ r. ⌜ r ≡ Σ1 x ⌝ }
 {
     x.rotate_right(6) ^ x.rotate_right(11) ^ x.rotate_right(25)
-}
-
-fn small_sigma0(x: u32) -> u32
-    ensures { λ r. ⌜ r ≡ σ0 x ⌝ }
-{
-    x.rotate_right(7) ^ x.rotate_right(18) ^ (x >> 3)
-}
-
-fn small_sigma1(x: u32) -> u32
-    ensures { λ r. ⌜ r ≡ σ1 x ⌝ }
-{
-    x.rotate_right(17) ^ x.rotate_right(19) ^ (x >> 10)
 }
 
 fn one_round(v: Variables, k: u32, w: u32) -> Variables
@@ -218,15 +207,44 @@ fn all_rounds(v: Variables, w: &[u32; 64]) -> Variables
     v
 }
 
-// The word t of the schedule, from those before it.
-fn next_word(w: &mut [u32; 64], t: usize)
-    requires { ⌜ 16 ≤ t ⌝ ∗ ⌜ t < 64 ⌝ }
-    ensures { λ _. ⌜ now (w .exit) ≡ set (now (w .entry)) t (next t (take t (now (w .entry)))) ⌝ }
+// Each lane rotated to the right by n bits, by two shifts since vectors have no rotation.
+fn rotated(x: u32x4, n: u32) -> u32x4
+    requires { ⌜ 0 < n ⌝ ∗ ⌜ n < 32 ⌝ }
+    ensures { λ r. ⌜ r ≡ map (ROTR n) x ⌝ }
 {
-    w[t] = small_sigma1(w[t - 2])
-        .wrapping_add(w[t - 7])
-        .wrapping_add(small_sigma0(w[t - 15]))
-        .wrapping_add(w[t - 16]);
+    (x >> u32x4::splat(n)) | (x << u32x4::splat(32 - n))
+}
+
+// σ0 of each lane.
+fn small_sigma0(x: u32x4) -> u32x4
+    ensures { λ r. ⌜ r ≡ map σ0 x ⌝ }
+{
+    rotated(x, 7) ^ rotated(x, 18) ^ (x >> u32x4::splat(3))
+}
+
+// σ1 of each lane.
+fn small_sigma1(x: u32x4) -> u32x4
+    ensures { λ r. ⌜ r ≡ map σ1 x ⌝ }
+{
+    rotated(x, 17) ^ rotated(x, 19) ^ (x >> u32x4::splat(10))
+}
+
+// The four words after the sixteen of a, b, c and d. The last two rest on the first two, so these come first.
+fn next_four(a: u32x4, b: u32x4, c: u32x4, d: u32x4) -> u32x4
+    ensures { λ r. ⌜ a ++ b ++ c ++ d ++ r ≡ schedule 4 (a ++ b ++ c ++ d) ⌝ }
+{
+    let s = a + small_sigma0(a.shuffle(b, [1, 2, 3, 4])) + c.shuffle(d, [1, 2, 3, 4]);
+    let low = s + small_sigma1(d.swizzle([2, 3, 2, 3]));
+    let high = s + small_sigma1(low.swizzle([0, 1, 0, 1]));
+    low.shuffle(high, [0, 1, 6, 7])
+}
+
+// The four words from the word i on.
+fn load(w: &[u32; 64], i: usize) -> u32x4
+    requires { ⌜ i + 4 ≤ 64 ⌝ }
+    ensures { λ r. ⌜ r ≡ take 4 (drop i (now (w .entry))) ⌝ }
+{
+    u32x4::from_slice(&w[i..i + 4])
 }
 
 // The words t to t + 3 of the schedule.
@@ -234,10 +252,13 @@ fn four_words(w: &mut [u32; 64], t: usize)
     requires { ⌜ 16 ≤ t ⌝ ∗ ⌜ t + 4 ≤ 64 ⌝ }
     ensures { λ _. ⌜ ((m : List ℕ) → take t (now (w .entry)) ≡ schedule (t - 16) m → take (t + 4) (now (w .exit)) ≡ schedule (t + 4 - 16) m) ⌝ }
 {
-    next_word(w, t);
-    next_word(w, t + 1);
-    next_word(w, t + 2);
-    next_word(w, t + 3);
+    let words = next_four(
+        load(w, t - 16),
+        load(w, t - 12),
+        load(w, t - 8),
+        load(w, t - 4),
+    );
+    words.copy_to_slice(&mut w[t..t + 4]);
 }
 
 // The words 16 to 63 of the schedule, written out as the rounds are.

@@ -5,12 +5,12 @@ use Prim.Native.Nat.{ℕ, _+_, _-_, _*_, _/_}
 use native.Mathlib.Numerals.{add-one}
 use native.Mathlib.Omega.{arith}
 use lib.ListN.{length, take, drop}
-use Rattle.compression.specs.Blake2b.{IV, compressed}
+use Rattle.compression.specs.Blake2b.{compressed}
 use Rattle.hashing.specs.Blake2.{state-after, final-state}
 use Rattle.hashing.proofs.blake2.digest.Needs as need
 
 pub loop-i-holds : need.loop-i-holds
-unfolding state-after IV
+unfolding state-after
 loop-i-holds c = (refl, refl)
 
 pub loop-i-again : need.loop-i-again
