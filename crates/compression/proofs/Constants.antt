@@ -8,9 +8,9 @@ use native.Mathlib.Omega.{arith}
 use lib.Dec.{eqb, ltb, leb}
 use lib.ListN.{getD}
 use Rattle.std.proofs.shelf.Tests.{and-parts, or-cases, ltb-true, leb-true, eqb-true, eq-eqb, lt-ltb, not-true, and-from, both-ways}
-use Rattle.compression.specs.Sha256.{K}
+use Rattle.compression.specs.Sha256.{K, H0}
 use Rattle.compression.specs.Blake2b.{IV}
-use Rattle.compression.specs.Roots.{Prime, primes, First-64-primes, Root-fraction, K-from-cube-roots, IV-from-square-roots}
+use Rattle.compression.specs.Roots.{Prime, primes, First-64-primes, Root-fraction, K-from-cube-roots, H0-from-square-roots, IV-from-square-roots}
 use Rattle.compression.proofs.Tables.{below, at}
 
 -- the whole part of the e-th root of p, if it is at most q
@@ -36,6 +36,10 @@ all-of-K : below (entry 3 32 K) 64 ≡ true
 unfolding below entry root whole primes
 all-of-K = refl
 
+all-of-H0 : below (entry 2 32 H0) 8 ≡ true
+unfolding below entry root whole primes
+all-of-H0 = refl
+
 all-of-IV : below (entry 2 64 IV) 8 ≡ true
 unfolding below entry root whole primes
 all-of-IV = refl
@@ -43,6 +47,10 @@ all-of-IV = refl
 pub K-roots : K-from-cube-roots
 unfolding entry
 K-roots i h = root-from _ _ _ _ _ (at (entry 3 32 K) 64 all-of-K i h)
+
+pub H0-roots : H0-from-square-roots
+unfolding entry
+H0-roots i h = root-from _ _ _ _ _ (at (entry 2 32 H0) 8 all-of-H0 i h)
 
 pub IV-roots : IV-from-square-roots
 unfolding entry

@@ -101,3 +101,7 @@ F h m t f = folded h (rounds 12 m (start h t f))
 -- the same in bytes: 64 of a state and 128 of a block, words little-endian
 unfoldable pub compressed : (chaining block : List ℕ) → ℕ → Bool → List ℕ
 compressed chaining block t f = joined (to-le 8) (F (words from-le 8 8 chaining) (words from-le 8 16 block) t f)
+
+-- 2.5 and 3.3: the state before the first block, for a digest of 64 bytes and without a key
+abbrev pub h0 : List ℕ
+h0 = set IV 0 (bitXor (getD IV 0 0) 0x01010040)

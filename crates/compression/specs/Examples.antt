@@ -3,16 +3,11 @@ use mathlib.Core.Bool.{true}
 use mathlib.Core.List.{List, [], _∷_, _++_}
 use mathlib.Core.Path.{_≡_}
 use Prim.Native.Nat.{ℕ}
-use lib.Bits.{bitXor}
-use lib.ListN.{getD, replicate, set}
+use lib.ListN.{replicate}
 use Rattle.std.specs.shelf.Lists.{joined}
 use Rattle.compression.specs.Words.{to-be, to-le}
-use Rattle.compression.specs.Sha256.{hashed}
-use Rattle.compression.specs.Blake2b.{IV, compressed}
-
--- FIPS 180-4, 5.3.3: the hash value of SHA-256 before the first block
-abbrev pub H0 : List ℕ
-H0 = 0x6a09e667 ∷ 0xbb67ae85 ∷ 0x3c6ef372 ∷ 0xa54ff53a ∷ 0x510e527f ∷ 0x9b05688c ∷ 0x1f83d9ab ∷ 0x5be0cd19 ∷ []
+use Rattle.compression.specs.Sha256.{H0, hashed}
+use Rattle.compression.specs.Blake2b.{h0, compressed}
 
 -- "abc", padded to one block: a bit 1, zeros, and the length of 24 bits
 abbrev pub sha256-of-abc : List ℕ
@@ -23,10 +18,6 @@ Sha256-example = sha256-of-abc ≡
     0xba ∷ 0x78 ∷ 0x16 ∷ 0xbf ∷ 0x8f ∷ 0x01 ∷ 0xcf ∷ 0xea ∷ 0x41 ∷ 0x41 ∷ 0x40 ∷ 0xde ∷ 0x5d ∷ 0xae ∷ 0x22 ∷ 0x23
     ∷ 0xb0 ∷ 0x03 ∷ 0x61 ∷ 0xa3 ∷ 0x96 ∷ 0x17 ∷ 0x7a ∷ 0x9c ∷ 0xb4 ∷ 0x10 ∷ 0xff ∷ 0x61 ∷ 0xf2 ∷ 0x00 ∷ 0x15 ∷ 0xad
     ∷ []
-
--- RFC 7693, 2.5 and 3.3: the state of BLAKE2b-512 without a key before the first block
-abbrev pub h0 : List ℕ
-h0 = set IV 0 (bitXor (getD IV 0 0) 0x01010040)
 
 -- "abc", padded with zeros to one block, the last one, at the offset counter 3
 abbrev pub blake2b-of-abc : List ℕ

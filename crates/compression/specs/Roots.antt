@@ -3,7 +3,7 @@ use mathlib.Core.Path.{_≡_}
 use mathlib.Core.List.{List, [], _∷_}
 use Prim.Native.Nat.{ℕ, _+_, _*_, _%_, _^_, _<_, _≤_}
 use lib.ListN.{length, getD}
-use Rattle.compression.specs.Sha256.{K}
+use Rattle.compression.specs.Sha256.{K, H0}
 use Rattle.compression.specs.Blake2b.{IV}
 
 -- n is above 1, and no number between 1 and n divides it.
@@ -37,6 +37,10 @@ pub record Root-fraction (e w p k : ℕ) : Type 0 where
 -- FIPS 180-4, 4.2.2: the round constants are from the cube roots of the first 64 primes.
 abbrev pub K-from-cube-roots : Type 0
 K-from-cube-roots = (i : ℕ) → i < 64 → Root-fraction 3 32 (getD primes i 0) (getD K i 0)
+
+-- FIPS 180-4, 5.3.3: the first hash value is from the square roots of the first eight primes.
+abbrev pub H0-from-square-roots : Type 0
+H0-from-square-roots = (i : ℕ) → i < 8 → Root-fraction 2 32 (getD primes i 0) (getD H0 i 0)
 
 -- RFC 7693, 2.6: the initial value is from the square roots of the first eight primes.
 abbrev pub IV-from-square-roots : Type 0

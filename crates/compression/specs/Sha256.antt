@@ -9,7 +9,7 @@ use Rattle.compression.specs.declared.sha256.Variables.{Variables}
 use Rattle.compression.specs.Words.{from-be, to-be, words, plus, rotate}
 
 infixl 20 _⊞_
--- 2.2.2 and 3.2: operations on words of 32 bits
+-- 2.2.2 and 3.2: operations on words of 32 bits, of which ⊞ is the addition
 abbrev pub _⊞_ : ℕ → ℕ → ℕ
 x ⊞ y = plus 32 x y
 
@@ -54,6 +54,10 @@ K =
     ∷ 0x748f82ee ∷ 0x78a5636f ∷ 0x84c87814 ∷ 0x8cc70208 ∷ 0x90befffa ∷ 0xa4506ceb ∷ 0xbef9a3f7 ∷ 0xc67178f2
     ∷ []
 
+-- 5.3.3: the hash value before the first block of a message
+abbrev pub H0 : List ℕ
+H0 = 0x6a09e667 ∷ 0xbb67ae85 ∷ 0x3c6ef372 ∷ 0xa54ff53a ∷ 0x510e527f ∷ 0x9b05688c ∷ 0x1f83d9ab ∷ 0x5be0cd19 ∷ []
+
 -- 6.2.2, step 1: the message schedule. `next t W` is the word Wₜ after the words W of which there are t.
 unfoldable pub next : ℕ → List ℕ → ℕ
 next t W = ((σ1 (getD W (t - 2) 0) ⊞ getD W (t - 7) 0) ⊞ σ0 (getD W (t - 15) 0)) ⊞ getD W (t - 16) 0
@@ -63,7 +67,7 @@ unfoldable pub schedule : ℕ → List ℕ → List ℕ
 schedule zero M = M
 schedule (suc n) M = schedule n M ++ (next (n + 16) (schedule n M) ∷ [])
 
--- step 2: the working variables, from the hash value before
+-- step 2: the working variables a to h, which are the fields of `Variables`, from the hash value before
 abbrev pub variables : List ℕ → Variables
 variables H =
     record { a = getD H 0 0; b = getD H 1 0; c = getD H 2 0; d = getD H 3 0; e = getD H 4 0; f = getD H 5 0; g = getD H 6 0; h = getD H 7 0 }

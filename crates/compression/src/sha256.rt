@@ -5,7 +5,7 @@ ghost use Prim.Native.Nat.{ℕ, _+_, _-_, _<_, _≤_};
 ghost use lib.ListN.{length, getD, take, drop};
 ghost use Rattle.compression.specs.Words.{words, from-be};
 ghost use Rattle.compression.specs.Sha256.{ROTR, Ch, Maj, Σ0, Σ1, σ0, σ1, K as constants, schedule, round, rounds, variables, sums, hashed};
-ghost use Rattle.compression.specs.Roots.{First-64-primes, K-from-cube-roots};
+ghost use Rattle.compression.specs.Roots.{First-64-primes, K-from-cube-roots, H0-from-square-roots};
 ghost use Rattle.compression.specs.Examples.{Sha256-example};
 ghost use Rattle.compression.specs.Keyed.{sha256};
 ghost use Rattle.std.specs.declared.option.Option.the-variants.{Some, None};
@@ -86,9 +86,10 @@ const K: [u32; 64] = [
     0xc67178f2,
 ];
 
-// What FIPS 180-4 says of the constants, and its example of one block: a proof and no code.
+// What FIPS 180-4 says of the constants and of the first hash value, and its example of one block: a proof and no code.
 fn as_published()
     ensures roots { λ _. ⌜ K-from-cube-roots ⌝ }
+    ensures start { λ _. ⌜ H0-from-square-roots ⌝ }
     ensures primes { λ _. ⌜ First-64-primes ⌝ }
     ensures example { λ _. ⌜ Sha256-example ⌝ }
 {}
@@ -101,11 +102,13 @@ fn constant(t: usize) -> u32
     K[t]
 }
 
-// The constant of the round t, where there is such a round. Each constant is from the cube root of its prime, the
-// primes are the first 64, and the definition that the compression is proved to meet gives the published example.
+// The constant of the round t, where there is such a round. Each constant is from the cube root of its prime, as the
+// first hash value is from square roots; the primes are the first 64; and the definition that the compression is proved
+// to meet gives the published example.
 pub fn round_constant(t: usize) -> Option<u32>
     ensures value { λ r. ⌜ r ≡ cond (ltb t 64) (Some (getD constants t 0)) None ⌝ }
     ensures roots { λ _. ⌜ K-from-cube-roots ⌝ }
+    ensures start { λ _. ⌜ H0-from-square-roots ⌝ }
     ensures primes { λ _. ⌜ First-64-primes ⌝ }
     ensures example { λ _. ⌜ Sha256-example ⌝ }
 {

@@ -7,8 +7,7 @@ use lib.Dec.{eqb}
 use lib.ListN.{length, take, drop, replicate}
 use Rattle.std.specs.shelf.Lists.{joined}
 use Rattle.compression.specs.Words.{to-le}
-use Rattle.compression.specs.Blake2b.{compressed}
-use Rattle.compression.specs.Examples.{h0}
+use Rattle.compression.specs.Blake2b.{h0, compressed}
 
 -- 3.3: the zero bytes up to a whole number of blocks of 128 bytes; the empty message is one block of zeros
 abbrev pub zeros : ℕ → ℕ

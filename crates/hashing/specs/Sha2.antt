@@ -5,8 +5,7 @@ use Prim.Native.Nat.{ℕ, zero, suc, _-_, _*_, _/_, _%_, _^_}
 use lib.ListN.{length, take, drop, replicate}
 use Rattle.std.specs.shelf.Lists.{joined}
 use Rattle.compression.specs.Words.{to-be}
-use Rattle.compression.specs.Sha256.{hashed}
-use Rattle.compression.specs.Examples.{H0}
+use Rattle.compression.specs.Sha256.{H0, hashed}
 
 -- 5.1.1: the zero bytes of the padding, which bring n + 1 bytes to 56 modulo 64
 abbrev pub zeros : ℕ → ℕ

@@ -1,6 +1,6 @@
 use mathlib.Core.Path.{refl}
 use Rattle.compression.specs.Words.{words}
-use Rattle.compression.specs.Blake2b.{IV, SIGMA, half, G, picked, columns, diagonals, rounds, work, start, folded, F, compressed}
+use Rattle.compression.specs.Blake2b.{SIGMA, half, G, picked, columns, diagonals, rounds, work, start, folded, F, compressed}
 use Rattle.compression.proofs.Constants.{IV-roots}
 use Rattle.compression.proofs.blake2b.as_published.Needs as need
 
