@@ -1,10 +1,10 @@
 // Function F of BLAKE2b (RFC 7693), and kind 2: F keyed by the first half of its block.
-ghost use mathlib.Core.Bool.{Bool};
 ghost use mathlib.Core.Path.{_≡_};
-ghost use Prim.Native.Nat.{ℕ, _<_, _≤_};
+ghost use Prim.Native.Nat.{_<_, _≤_};
 ghost use lib.ListN.{length, getD};
 ghost use Rattle.refusal.specs.Verdict.{left};
 ghost use Rattle.compression.specs.Compress.{F-verdict};
+ghost use Rattle.compression.specs.Words.{rotate};
 ghost use Rattle.compression.specs.Blake2b.{half, G, picked, columns, diagonals, rounds, work, folded, F, compressed};
 ghost use Rattle.compression.specs.Blake2b.{IV as iv};
 ghost use Rattle.compression.specs.Roots.{IV-from-square-roots};
@@ -70,34 +70,39 @@ pub fn initial_value(i: usize) -> Option<u64>
     if i < 8 { Some(initial(i)) } else { None }
 }
 
-// The first half of G, with the message word x.
-fn first_half(v: &mut [u64; 16], a: usize, b: usize, c: usize, d: usize, x: u64)
-    requires { ⌜ a < 16 ⌝ ∗ ⌜ b < 16 ⌝ ∗ ⌜ c < 16 ⌝ ∗ ⌜ d < 16 ⌝ }
-    ensures { λ _. ⌜ now (v .exit) ≡ half 32 24 (now (v .entry)) a b c d x ⌝ }
+// A word rotated to the right by n bits.
+fn rotated(x: u64, n: u32) -> u64
+    requires { ⌜ 0 < n ⌝ ∗ ⌜ n < 64 ⌝ }
+    ensures { λ r. ⌜ r ≡ rotate 64 n x ⌝ }
 {
-    v[a] = v[a].wrapping_add(v[b]).wrapping_add(x);
-    v[d] = (v[d] ^ v[a]).rotate_right(32);
-    v[c] = v[c].wrapping_add(v[d]);
-    v[b] = (v[b] ^ v[c]).rotate_right(24);
+    x.rotate_right(n)
 }
 
-// The second half of G, with the message word y.
-fn second_half(v: &mut [u64; 16], a: usize, b: usize, c: usize, d: usize, y: u64)
+// Half of G, with the message word x and the rotations P and Q.
+fn mix_half<const P: u32, const Q: u32>(
+    v: &mut [u64; 16],
+    a: usize,
+    b: usize,
+    c: usize,
+    d: usize,
+    x: u64,
+)
     requires { ⌜ a < 16 ⌝ ∗ ⌜ b < 16 ⌝ ∗ ⌜ c < 16 ⌝ ∗ ⌜ d < 16 ⌝ }
-    ensures { λ _. ⌜ now (v .exit) ≡ half 16 63 (now (v .entry)) a b c d y ⌝ }
+    requires { ⌜ 0 < P ⌝ ∗ ⌜ P < 64 ⌝ ∗ ⌜ 0 < Q ⌝ ∗ ⌜ Q < 64 ⌝ }
+    ensures { λ _. ⌜ now (v .exit) ≡ half P Q (now (v .entry)) a b c d x ⌝ }
 {
-    v[a] = v[a].wrapping_add(v[b]).wrapping_add(y);
-    v[d] = (v[d] ^ v[a]).rotate_right(16);
+    v[a] = v[a].wrapping_add(v[b]).wrapping_add(x);
+    v[d] = rotated(v[d] ^ v[a], P);
     v[c] = v[c].wrapping_add(v[d]);
-    v[b] = (v[b] ^ v[c]).rotate_right(63);
+    v[b] = rotated(v[b] ^ v[c], Q);
 }
 
 fn mix(v: &mut [u64; 16], a: usize, b: usize, c: usize, d: usize, x: u64, y: u64)
     requires { ⌜ a < 16 ⌝ ∗ ⌜ b < 16 ⌝ ∗ ⌜ c < 16 ⌝ ∗ ⌜ d < 16 ⌝ }
     ensures { λ _. ⌜ now (v .exit) ≡ G (now (v .entry)) a b c d x y ⌝ }
 {
-    first_half(v, a, b, c, d, x);
-    second_half(v, a, b, c, d, y);
+    mix_half::<32, 24>(v, a, b, c, d, x);
+    mix_half::<16, 63>(v, a, b, c, d, y);
 }
 
 // The message word that the round i takes at j.

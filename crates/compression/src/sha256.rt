@@ -3,7 +3,6 @@ ghost use mathlib.Core.Path.{_≡_};
 ghost use mathlib.Core.List.{List, _++_, map};
 ghost use Prim.Native.Nat.{ℕ, _+_, _-_, _<_, _≤_};
 ghost use lib.ListN.{length, getD, take, drop};
-ghost use Rattle.compression.specs.Words.{words, from-be};
 ghost use Rattle.compression.specs.Sha256.{ROTR, Ch, Maj, Σ0, Σ1, σ0, σ1, K as constants, schedule, round, rounds, variables, sums, hashed};
 ghost use Rattle.compression.specs.Roots.{First-64-primes, K-from-cube-roots, H0-from-square-roots};
 ghost use Rattle.compression.specs.Examples.{Sha256-example};

@@ -1,6 +1,6 @@
 // Words read from bytes and written to them, and the block that a key and a message block make.
 ghost use mathlib.Core.Path.{_≡_};
-ghost use Prim.Native.Nat.{ℕ, _+_, _*_, _≤_};
+ghost use Prim.Native.Nat.{_+_, _*_, _≤_};
 ghost use lib.ListN.{length, replicate};
 ghost use Rattle.std.specs.shelf.Lists.{joined};
 ghost use Rattle.compression.specs.Words.{from-be, from-le, to-be, to-le, word, words};

@@ -1,6 +1,6 @@
 -- SHA-256 of a whole message, as FIPS 180-4 (Secure Hash Standard) defines it. Assumes nothing.
 -- The sections named are those of FIPS 180-4.
-use mathlib.Core.List.{List, [], _∷_, _++_}
+use mathlib.Core.List.{List, _∷_, _++_}
 use Prim.Native.Nat.{ℕ, zero, suc, _-_, _*_, _/_, _%_, _^_}
 use lib.ListN.{length, take, drop, replicate}
 use Rattle.std.specs.shelf.Lists.{joined}

@@ -1,5 +1,4 @@
 // BLAKE2b-512 without a key (RFC 7693) over function F.
-ghost use mathlib.Core.Bool.{Bool};
 ghost use mathlib.Core.Path.{_≡_};
 ghost use Prim.Native.Nat.{_-_, _/_, _≤_};
 ghost use lib.ListN.{length};

@@ -1,5 +1,5 @@
 use native.Mathlib.Omega.{arith}
-use Rattle.compression.specs.Blake2b.{work, IV}
+use Rattle.compression.specs.Blake2b.{work}
 use Rattle.compression.proofs.WordBytes.{eight}
 use Rattle.compression.proofs.blake2b.work_vector.Needs as need
 

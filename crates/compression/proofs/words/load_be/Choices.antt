@@ -1,6 +1,6 @@
 use Prim.Native.Nat.{ℕ, _<_}
 use mathlib.Core.Path.{_≡_}
-use lib.ListN.{getD, length}
+use lib.ListN.{getD}
 use Rattle.compression.specs.Words.{word, from-be}
 use Rattle.compression.proofs.words.load_be.Given as given
 

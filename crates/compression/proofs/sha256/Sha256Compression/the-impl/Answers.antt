@@ -1,7 +1,7 @@
 use mathlib.Core.Path.{refl}
 use borrow.Author.Needs.{needs}
 use Rattle.compression.specs.Keyed.{sha256}
-use Rattle.compression.specs.Sha256.{hashed, next-hash, sums}
+use Rattle.compression.specs.Sha256.{hashed, next-hash}
 use Rattle.compression.proofs.sha256.Sha256Compression.the-impl.Needs as need
 
 pub sized-law : need.sized-law

@@ -1,6 +1,6 @@
 use Rattle.compression.specs.Blake2b.{half}
-use Rattle.compression.proofs.blake2b.second_half.Needs as need
+use Rattle.compression.proofs.blake2b.mix_half.Needs as need
 
 pub returns : need.returns
 unfolding half
-returns c = cc
+returns g c = cc

@@ -1,6 +1,0 @@
-use Rattle.compression.specs.Blake2b.{half}
-use Rattle.compression.proofs.blake2b.first_half.Needs as need
-
-pub returns : need.returns
-unfolding half
-returns c = cc
