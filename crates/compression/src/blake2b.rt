@@ -14,6 +14,7 @@ ghost use Rattle.std.specs.declared.option.Option.the-variants.{Some, None};
 ghost use mathlib.Core.Bool.{cond};
 ghost use lib.Dec.{ltb};
 use crate::Compression;
+use crate::tested;
 use crate::words::keyed;
 use crate::words::load_le;
 use crate::words::store_le;
@@ -289,12 +290,7 @@ pub impl Compression for Blake2b as Blake2bCompression {
         message: &[u8],
         place: &mut [u8],
     ) -> Result<(), Refusal> {
-        if key.len() < 16 || 64 < key.len() {
-            return Err(Refusal::KeyLength);
-        }
-        if chaining.len() != 64 || message.len() != 64 || place.len() != 64 {
-            return Err(Refusal::PlaceLength);
-        }
+        tested(64, 16, 64, key, chaining, message, place)?;
         f_keyed(key, chaining, message, place);
         Ok(())
     }

@@ -66,3 +66,24 @@ pub trait Compression {
         ensures verdict { λ r. ⌜ r ≡ compress-verdict block shortest longest (now (key .entry)) (now (chaining .entry)) (now (message .entry)) (now (place .entry)) ⌝ }
         ensures after { λ r. ⌜ now (place .exit) ≡ left r (now (place .entry)) (meaning (now (key .entry)) (now (chaining .entry)) (now (message .entry))) ⌝ };
 }
+
+// The tests of a compression, in their order: the same for every kind.
+pub(crate) fn tested(
+    b: usize,
+    shortest: usize,
+    longest: usize,
+    key: &[u8],
+    chaining: &[u8],
+    message: &[u8],
+    place: &[u8],
+) -> Result<(), Refusal>
+    ensures { λ r. ⌜ r ≡ compress-verdict b shortest longest (now (key .entry)) (now (chaining .entry)) (now (message .entry)) (now (place .entry)) ⌝ }
+{
+    if key.len() < shortest || longest < key.len() {
+        return Err(Refusal::KeyLength);
+    }
+    if chaining.len() != b || message.len() != b || place.len() != b {
+        return Err(Refusal::PlaceLength);
+    }
+    Ok(())
+}

@@ -11,6 +11,7 @@ ghost use Rattle.std.specs.declared.option.Option.the-variants.{Some, None};
 ghost use mathlib.Core.Bool.{cond};
 ghost use lib.Dec.{ltb};
 use crate::Compression;
+use crate::tested;
 use crate::words::keyed;
 use crate::words::load_be;
 use crate::words::store_be;
@@ -371,12 +372,7 @@ pub impl Compression for Sha256 as Sha256Compression {
         message: &[u8],
         place: &mut [u8],
     ) -> Result<(), Refusal> {
-        if key.len() < 16 || 32 < key.len() {
-            return Err(Refusal::KeyLength);
-        }
-        if chaining.len() != 32 || message.len() != 32 || place.len() != 32 {
-            return Err(Refusal::PlaceLength);
-        }
+        tested(32, 16, 32, key, chaining, message, place)?;
         hash_keyed(key, chaining, message, place);
         Ok(())
     }
