@@ -1,1 +1,3 @@
-pub mod Padding
+pub mod Blocks
+pub mod Sha2Padding
+pub mod Blake2Padding

@@ -1,14 +1,10 @@
 // BLAKE2b-512 without a key (RFC 7693) over function F.
 ghost use mathlib.Core.Path.{_≡_};
-ghost use Prim.Native.Nat.{_-_, _/_, _≤_};
-ghost use lib.ListN.{length};
-ghost use Rattle.std.specs.Of.Vec.{vec-items};
-ghost use Rattle.std.specs.Vec.{made};
+ghost use Prim.Native.Nat.{_+_, _-_, _*_, _/_, _≤_};
+ghost use lib.ListN.{length, getD};
 ghost use Rattle.compression.specs.Blake2b.{compressed};
-ghost use Rattle.hashing.specs.Blake2.{padded as padding, final-state, blake2b};
+ghost use Rattle.hashing.specs.Blake2.{padded, block as block-of, final-state, blake2b};
 use compression::blake2b_f;
-use std::alloc::AllocError;
-use std::alloc::Global;
 
 // the state before the first block: the initial value, told of a digest of 64 bytes and of no key
 const H0: [u8; 64] = [
@@ -78,15 +74,31 @@ const H0: [u8; 64] = [
     0x5b,
 ];
 
-// The message with zeros behind it, up to a whole block; at least one block.
-fn pad(heap: Global, message: &[u8]) -> Result<Vec<u8>, AllocError>
-    ensures { λ r. ⌜ made r (λ v. (vec-items v ≡ padding (now (message .entry))) × (128 ≤ length (vec-items v))) ⌝ }
+// The byte k of the padded message.
+fn padded_byte(message: &[u8], k: usize) -> u8
+    ensures { λ r. ⌜ r ≡ getD (padded (now (message .entry))) k 0 ⌝ }
 {
-    let n = message.len();
-    let zeros = if n == 0 { 128 } else { (128 - n % 128) % 128 };
-    let mut padded = Vec::from_slice(heap, message)?;
-    padded.extend_from_slice(&[0u8; 128][0..zeros])?;
-    Ok(padded)
+    if k < message.len() { message[k] } else { 0 }
+}
+
+// The block i of the padded message.
+fn padded_block(message: &[u8], i: usize) -> [u8; 128]
+    requires { ⌜ 128 * i + 128 ≤ length (padded (now message)) ⌝ }
+    ensures { λ r. ⌜ r ≡ block-of (padded (now (message .entry))) i ⌝ }
+{
+    let mut block = [0u8; 128];
+    for j in 0..128 {
+        block[j] = padded_byte(message, 128 * i + j);
+    }
+    block
+}
+
+// The number of the last block of the padded message.
+fn last_block(message: &[u8]) -> usize
+    ensures value { λ r. ⌜ r ≡ length (padded (now (message .entry))) / 128 - 1 ⌝ }
+    ensures within { λ r. ⌜ 128 * r + 128 ≤ length (padded (now (message .entry))) ⌝ }
+{
+    message.len().saturating_sub(1) / 128
 }
 
 // One block more.
@@ -99,34 +111,32 @@ fn absorb(h: &mut [u8; 64], block: &[u8], t: u128, last: bool)
     *h = next;
 }
 
-// The digest of a message of n bytes, from the padded message.
-fn digest(padded: &[u8], n: usize) -> [u8; 64]
-    requires { ⌜ 128 ≤ length (now padded) ⌝ }
-    ensures { λ r. ⌜ r ≡ final-state (length (now (padded .entry)) / 128 - 1) n (now (padded .entry)) ⌝ }
+// The state after the block `last`, the last one, of the padded message.
+fn hash_blocks(message: &[u8], last: usize) -> [u8; 64]
+    requires { ⌜ 128 * last + 128 ≤ length (padded (now message)) ⌝ }
+    ensures { λ r. ⌜ r ≡ final-state last (length (now (message .entry))) (padded (now (message .entry))) ⌝ }
 {
-    let last = padded.len() / 128 - 1;
     let mut h = H0;
     for i in 0..last {
         absorb(
             &mut h,
-            &padded[128 * i..128 * i + 128],
+            &padded_block(message, i),
             128 * (i as u128 + 1),
             false,
         );
     }
     absorb(
         &mut h,
-        &padded[128 * last..128 * last + 128],
-        n as u128,
+        &padded_block(message, last),
+        message.len() as u128,
         true,
     );
     h
 }
 
-// The digest of a message, unless there is no memory to pad it in.
-pub fn blake2b(heap: Global, message: &[u8]) -> Result<[u8; 64], AllocError>
-    ensures { λ r. ⌜ made r (λ d. d ≡ blake2b (now (message .entry))) ⌝ }
+// The digest of a message.
+pub fn blake2b(message: &[u8]) -> [u8; 64]
+    ensures { λ r. ⌜ r ≡ blake2b (now (message .entry)) ⌝ }
 {
-    let padded = pad(heap, message)?;
-    Ok(digest(padded.as_slice(), message.len()))
+    hash_blocks(message, last_block(message))
 }

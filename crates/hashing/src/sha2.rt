@@ -1,16 +1,12 @@
 // SHA-256 (FIPS 180-4) over the compression of kind 1.
 ghost use mathlib.Core.Path.{_≡_};
-ghost use Prim.Native.Nat.{_/_};
-ghost use lib.ListN.{length};
-ghost use Rattle.std.specs.Of.Vec.{vec-items};
-ghost use Rattle.std.specs.Vec.{made};
+ghost use Prim.Native.Nat.{_+_, _*_, _/_, _<_, _≤_};
+ghost use lib.ListN.{length, getD, take, drop};
 ghost use Rattle.compression.specs.Sha256.{hashed};
-ghost use Rattle.hashing.specs.Sha2.{padded as padding, hash-after, sha256};
+ghost use Rattle.hashing.specs.Sha2.{padded, hash-after, sha256};
 use compression::Compression;
 use compression::Sha256;
 use compression::Sha256Compression;
-use std::alloc::AllocError;
-use std::alloc::Global;
 
 // the hash value before the first block
 const H0: [u8; 32] = [
@@ -48,17 +44,42 @@ const H0: [u8; 32] = [
     0x19,
 ];
 
-// The message with a bit 1, zeros, and its length in bits behind it.
-fn pad(heap: Global, message: &[u8]) -> Result<Vec<u8>, AllocError>
-    ensures { λ r. ⌜ made r (λ v. vec-items v ≡ padding (now (message .entry))) ⌝ }
+// The byte k of the padded message.
+fn padded_byte(message: &[u8], k: usize) -> u8
+    requires { ⌜ k < length (padded (now message)) ⌝ }
+    ensures { λ r. ⌜ r ≡ getD (padded (now (message .entry))) k 0 ⌝ }
 {
     let n = message.len();
-    let mut one = [0u8; 64];
-    one[0] = 0x80;
-    let mut padded = Vec::from_slice(heap, message)?;
-    padded.extend_from_slice(&one[0..1 + (119 - n % 64) % 64])?;
-    padded.extend_from_slice(&(n as u64).wrapping_mul(8).to_be_bytes())?;
-    Ok(padded)
+    let zeros = (119 - n % 64) % 64;
+    if k < n {
+        message[k]
+    } else if k == n {
+        0x80
+    } else if k - n <= zeros {
+        0
+    } else {
+        (n as u64).wrapping_mul(8).to_be_bytes()[k - n - zeros - 1]
+    }
+}
+
+// The block i of the padded message.
+fn padded_block(message: &[u8], i: usize) -> [u8; 64]
+    requires { ⌜ 64 * i + 64 ≤ length (padded (now message)) ⌝ }
+    ensures { λ r. ⌜ r ≡ take 64 (drop (64 * i) (padded (now (message .entry)))) ⌝ }
+{
+    let mut block = [0u8; 64];
+    for j in 0..64 {
+        block[j] = padded_byte(message, 64 * i + j);
+    }
+    block
+}
+
+// The blocks of the padded message.
+fn block_count(message: &[u8]) -> usize
+    ensures { λ r. ⌜ r ≡ length (padded (now (message .entry))) / 64 ⌝ }
+{
+    let n = message.len();
+    n / 64 + if n % 64 < 56 { 1 } else { 2 }
 }
 
 // One block more. A whole block is a key of 32 bytes and a message block, so it is never refused.
@@ -72,20 +93,21 @@ fn absorb(h: &mut [u8; 32], block: &[u8])
     *h = next;
 }
 
-fn digest(padded: &[u8]) -> [u8; 32]
-    ensures { λ r. ⌜ r ≡ hash-after (length (now (padded .entry)) / 64) (now (padded .entry)) ⌝ }
+// The hash value after the first blocks of the padded message.
+fn hash_blocks(message: &[u8], blocks: usize) -> [u8; 32]
+    requires { ⌜ 64 * blocks ≤ length (padded (now message)) ⌝ }
+    ensures { λ r. ⌜ r ≡ hash-after blocks (padded (now (message .entry))) ⌝ }
 {
     let mut h = H0;
-    for i in 0..padded.len() / 64 {
-        absorb(&mut h, &padded[64 * i..64 * i + 64]);
+    for i in 0..blocks {
+        absorb(&mut h, &padded_block(message, i));
     }
     h
 }
 
-// The digest of a message, unless there is no memory to pad it in.
-pub fn sha256(heap: Global, message: &[u8]) -> Result<[u8; 32], AllocError>
-    ensures { λ r. ⌜ made r (λ d. d ≡ sha256 (now (message .entry))) ⌝ }
+// The digest of a message.
+pub fn sha256(message: &[u8]) -> [u8; 32]
+    ensures { λ r. ⌜ r ≡ sha256 (now (message .entry)) ⌝ }
 {
-    let padded = pad(heap, message)?;
-    Ok(digest(padded.as_slice()))
+    hash_blocks(message, block_count(message))
 }

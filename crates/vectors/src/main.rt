@@ -20,11 +20,11 @@ fn answer(heap: Global, line: &[u8]) -> Result<String, AllocError> {
     match parse(heap, line)? {
         Request::Sha256(message) => {
             text.push_str("sha256 ")?;
-            push_hex(&mut text, &hashing::sha256(heap, message.as_slice())?)?;
+            push_hex(&mut text, &hashing::sha256(message.as_slice()))?;
         }
         Request::Blake2b(message) => {
             text.push_str("blake2b ")?;
-            push_hex(&mut text, &hashing::blake2b(heap, message.as_slice())?)?;
+            push_hex(&mut text, &hashing::blake2b(message.as_slice()))?;
         }
         Request::Compress {
             kind,

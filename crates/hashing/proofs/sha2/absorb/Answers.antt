@@ -6,7 +6,7 @@ use Rattle.refusal.specs.Verdict.{left}
 use Rattle.compression.specs.Keyed.{sha256, keyed-block}
 use Rattle.compression.specs.Sha256.{hashed}
 use Rattle.compression.proofs.Accepts.{accepts}
-use Rattle.hashing.proofs.Padding.{split-block}
+use Rattle.hashing.proofs.Blocks.{split-block}
 use Rattle.hashing.proofs.sha2.absorb.Needs as need
 
 pub returns : need.returns
