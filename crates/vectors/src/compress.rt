@@ -22,7 +22,7 @@ fn compress_front<C: Compression>(
     Ok(b)
 }
 
-// The same for the number of a kind.
+// The same for the number of a kind. The numbers are asked of the compressions, so that the contract holds them to 1 and 2.
 pub(crate) fn compressed(
     kind: u32,
     key: &[u8],
@@ -32,9 +32,11 @@ pub(crate) fn compressed(
 ) -> Result<usize, Refusal>
     ensures { λ r. ⌜ at-front r (now (place .exit)) ≡ by-kind kind (now (key .entry)) (now (chaining .entry)) (now (message .entry)) ⌝ }
 {
-    match kind {
-        1 => compress_front::<Sha256>(key, chaining, message, place),
-        2 => compress_front::<Blake2b>(key, chaining, message, place),
-        _ => Err(Refusal::KindMismatch),
+    if kind == u32::from(Sha256::kind()) {
+        compress_front::<Sha256>(key, chaining, message, place)
+    } else if kind == u32::from(Blake2b::kind()) {
+        compress_front::<Blake2b>(key, chaining, message, place)
+    } else {
+        Err(Refusal::KindMismatch)
     }
 }
