@@ -1,4 +1,6 @@
 // Chains of records by next numbers: one list after another threaded through one slice of cells.
+#![tactic(auto)]
+
 ghost use Rattle.std.specs.Prelude.{◌≡◌, ℕ, false, List, ◌∷◌, map, length, if◌then◌else◌, Some, None};
 ghost use Rattle.chain.specs.Chain.{no_cell, next_of, relink, Chain, Absent};
 

@@ -1,4 +1,6 @@
 // Keyed compressions behind one interface: what sealing rests on.
+#![tactic(auto)]
+
 ghost use Rattle.std.specs.Prelude.{◌≡◌, ℕ, ◌≤◌, ◌⊎◌, List, length};
 ghost use Rattle.std.specs.Int.Digits.{AllBelowBase};
 ghost use Rattle.refusal.specs.Verdict.{left};

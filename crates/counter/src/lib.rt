@@ -1,4 +1,6 @@
 // The code book: a block of codes that stations reserve, draw and void, so that no two stations ever hold the same code.
+#![tactic(auto)]
+
 mod block;
 mod cell;
 mod opening;

@@ -1,4 +1,6 @@
 // The whole hashes over the proved compressions, so that they can be run on published answers.
+#![tactic(auto)]
+
 mod blake2;
 mod sha2;
 

@@ -1,4 +1,6 @@
 // Card images: building one, looking at one, opening one.
+#![tactic(auto)]
+
 mod build;
 mod host;
 mod label;

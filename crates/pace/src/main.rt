@@ -1,5 +1,7 @@
 // The pace of the code book, for bench/run. With the argument `run` it prints a line of nanoseconds for each of 31
 // samples; without, nothing. No part of the product.
+#![tactic(auto)]
+
 use anyhow::anyhow;
 use compression::Sha256;
 use counter::{Block, CodeCell, RegisterCell, Station, Status};

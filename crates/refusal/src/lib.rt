@@ -1,5 +1,7 @@
 // The refusals of Hurbezki: every call that is given bad input answers one of these and nothing else happens.
 // docs/REFUSALS.md says of each who meets it, when, and what memory holds after it.
+#![tactic(auto)]
+
 ghost use Rattle.std.specs.Prelude.{◌≡◌};
 ghost use Rattle.refusal.specs.Number.{number};
 ghost use Rattle.refusal.specs.Verdict.{code, answer_code};

@@ -1,4 +1,6 @@
 // Sealing and opening of messages: OMD over any keyed compression.
+#![tactic(auto)]
+
 mod bytes;
 mod calls;
 mod doubling;

@@ -1,4 +1,6 @@
 // The compressions, sealing and opening by C names, for bench/run to time. No part of the product.
+#![tactic(auto)]
+
 ghost use Rattle.std.specs.Prelude.{◌≡◌, length};
 ghost use Rattle.refusal.specs.Verdict.{code, answer_code, answered, left_after, at_front};
 ghost use Rattle.compression.specs.Compress.{compress_verdict};

@@ -1,5 +1,7 @@
 // Tries a block: a request on each line of standard input, and its answer on a line of standard output.
 // docs/TRIAL.md has the forms of the lines.
+#![tactic(auto)]
+
 mod request;
 mod step;
 

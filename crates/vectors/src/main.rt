@@ -1,5 +1,7 @@
 // Known answers: a request on each line of standard input, and its answer on a line of standard output.
 // docs/VECTORS.md has the forms of the lines.
+#![tactic(auto)]
+
 mod answer;
 mod compress;
 mod hex;
