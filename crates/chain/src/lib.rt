@@ -33,7 +33,7 @@ fn no_cell(n: usize, i: u16) -> bool
 
 // The next number of cell `i`, or 0 where no cell has the number `i`.
 fn next_of<R: Linked>(cells: &[R], i: u16) -> u16
-    ensures { result ≡ next_of (map link cells.now) i }
+    ensures { result ≡ next_of (map R.link cells.now) i }
 {
     if no_cell(cells.len(), i) {
         return 0;
@@ -44,9 +44,9 @@ fn next_of<R: Linked>(cells: &[R], i: u16) -> u16
 // Gives cell `i` another next number, where a cell has the number `i`. It then stands in front of the chain from that
 // number, and the rest of a chain that it was first of is untouched.
 fn link_cell<R: Linked>(cells: &mut [R], i: u16, next: u16)
-    ensures links { cells.new ≡ relink relinked cells.old i next }
-    ensures front { (xs : List ℕ) → no_cell (length cells.old) i ≡ false → Chain (map link cells.old) next xs → Absent i xs → Chain (map link cells.new) i (i ∷ xs) }
-    ensures rest { (x : ℕ) (xs : List ℕ) → Chain (map link cells.old) i (x ∷ xs) → (x ≡ i) × Chain (map link cells.new) (next_of (map link cells.old) i) xs }
+    ensures links { cells.new ≡ relink R.relinked cells.old i next }
+    ensures front { (xs : List ℕ) → no_cell (length cells.old) i ≡ false → Chain (map R.link cells.old) next xs → Absent i xs → Chain (map R.link cells.new) i (i ∷ xs) }
+    ensures rest { (x : ℕ) (xs : List ℕ) → Chain (map R.link cells.old) i (x ∷ xs) → (x ≡ i) × Chain (map R.link cells.new) (next_of (map R.link cells.old) i) xs }
 {
     if no_cell(cells.len(), i) {
         return;
@@ -58,8 +58,8 @@ fn link_cell<R: Linked>(cells: &mut [R], i: u16, next: u16)
 // changes and the head stays.
 pub fn push_front<R: Linked>(cells: &mut [R], head: u16, i: u16) -> u16
     ensures head { result ≡ (if no_cell (length cells.old) i then head else i) }
-    ensures links { cells.new ≡ relink relinked cells.old i head }
-    ensures chain { (xs : List ℕ) → no_cell (length cells.old) i ≡ false → Chain (map link cells.old) head xs → Absent i xs → Chain (map link cells.new) i (i ∷ xs) }
+    ensures links { cells.new ≡ relink R.relinked cells.old i head }
+    ensures chain { (xs : List ℕ) → no_cell (length cells.old) i ≡ false → Chain (map R.link cells.old) head xs → Absent i xs → Chain (map R.link cells.new) i (i ∷ xs) }
 {
     link_cell(cells, i, head);
     if no_cell(cells.len(), i) { head } else { i }
@@ -68,9 +68,9 @@ pub fn push_front<R: Linked>(cells: &mut [R], head: u16, i: u16) -> u16
 // Takes the first cell off the chain from `head`: answers its number and the new head, and the cell's next number is 0
 // then. Where no cell has the number `head`, nothing changes.
 pub fn pop_front<R: Linked>(cells: &mut [R], head: u16) -> Option<(u16, u16)>
-    ensures first { result ≡ (if no_cell (length cells.old) head then None else Some (head, next_of (map link cells.old) head)) }
-    ensures links { cells.new ≡ relink relinked cells.old head 0 }
-    ensures chain { (x : ℕ) (xs : List ℕ) → Chain (map link cells.old) head (x ∷ xs) → (x ≡ head) × Chain (map link cells.new) (next_of (map link cells.old) head) xs }
+    ensures first { result ≡ (if no_cell (length cells.old) head then None else Some (head, next_of (map R.link cells.old) head)) }
+    ensures links { cells.new ≡ relink R.relinked cells.old head 0 }
+    ensures chain { (x : ℕ) (xs : List ℕ) → Chain (map R.link cells.old) head (x ∷ xs) → (x ≡ head) × Chain (map R.link cells.new) (next_of (map R.link cells.old) head) xs }
 {
     let next = next_of(cells, head);
     link_cell(cells, head, 0);

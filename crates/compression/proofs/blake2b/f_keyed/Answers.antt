@@ -6,5 +6,5 @@ use Rattle.compression.proofs.blake2b.f_keyed.Goals as goal
 pub returns : goal.returns
 unfolding blake2b
 returns c =
-    c.f-bytes.ensures
+    c.f_bytes.ensures
     ∙ ap (λ x. compressed c.args.chaining.now x 128 false) (c.keyed.ensures ∙ ap (λ n. keyed_block n c.args.key.now c.args.message.now) c.requires.1.1.0)

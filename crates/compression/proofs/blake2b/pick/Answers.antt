@@ -3,9 +3,9 @@ use Rattle.compression.specs.Blake2b.{picked, SIGMA}
 use Rattle.compression.proofs.Sigma.{small}
 use Rattle.compression.proofs.blake2b.pick.Goals as goal
 
-pub offset-bounds-m-i : goal.offset-bounds-m-i
+pub offset_bounds-m-i : goal.offset_bounds-m-i
 unfolding SIGMA
-offset-bounds-m-i c = let lt : c.args.i % 10 < 10 = omega arith in omega (arith, small (c.args.i % 10) c.args.j lt c.requires)
+offset_bounds-m-i c = let lt : c.args.i % 10 < 10 = omega arith in omega (arith, small (c.args.i % 10) c.args.j lt c.requires)
 
 pub bounds-m-i : goal.bounds-m-i
 unfolding SIGMA

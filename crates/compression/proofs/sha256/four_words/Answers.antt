@@ -8,7 +8,7 @@ pub returns : goal.returns
 returns c m h =
     let w = c.args.w.now in
     let t : ℕ = c.args.t in
-    let r = c.next-four-words.result in
+    let r = c.next_four-words.result in
     let p = take (t - 16) w in
     let q = c.load.result ++ c.load-2.result ++ c.load-3.result ++ c.load-4.result in
     let split : take t w ≡ p ++ q =
@@ -16,5 +16,5 @@ returns c m h =
     stored w t r (omega arith) (omega arith)
     ∙ ap (λ x. x ++ r) split
     ∙ append_assoc p q r
-    ∙ ap (λ x. p ++ x) c.next-four-words.ensures
+    ∙ ap (λ x. p ++ x) c.next_four-words.ensures
     ∙ schedule_after p (t - 16) (length-take-le (t - 16) w (omega arith)) q m (sym split ∙ h) 4 (t + 4 - 16) (omega arith)

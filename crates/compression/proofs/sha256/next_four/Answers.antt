@@ -10,9 +10,9 @@ returns c =
     let v = c.args in
     let m = lanes v.a ++ lanes v.b ++ lanes v.c ++ lanes v.d in
     rw (
-      c.small-sigma1-2.ensures,
-      c.small-sigma1.ensures,
-      c.small-sigma0.ensures,
+      c.small_sigma1-2.ensures,
+      c.small_sigma1.ensures,
+      c.small_sigma0.ensures,
       four v.a c.fits-a.0,
       four v.b c.fits-b.0,
       four v.c c.fits-c.0,

@@ -8,11 +8,11 @@ use Rattle.compression.proofs.words.keyed.Goals as goal
 long : (xs : List ℕ) (n : ℕ) → xs ≡ replicate n 0 → length xs ≡ n
 long xs n e = ap length e ∙ length-replicate n 0
 
-pub slice-bounds-copy-from-slice-end : goal.slice-bounds-copy-from-slice-end
-slice-bounds-copy-from-slice-end c = let l = long _ _ c.requires.1 in search rules
+pub slice_bounds-copy_from_slice-end : goal.slice_bounds-copy_from_slice-end
+slice_bounds-copy_from_slice-end c = let l = long _ _ c.requires.1 in search rules
 
-pub slice-bounds-copy-from-slice-end-2 : goal.slice-bounds-copy-from-slice-end-2
-slice-bounds-copy-from-slice-end-2 c = let l = long _ _ c.requires.1 in search (rules, places)
+pub slice_bounds-copy_from_slice-end-2 : goal.slice_bounds-copy_from_slice-end-2
+slice_bounds-copy_from_slice-end-2 c = let l = long _ _ c.requires.1 in search (rules, places)
 
 pub returns : goal.returns
 returns c =
@@ -20,5 +20,5 @@ returns c =
     let message : List ℕ = c.args.message.now in
     let b : ℕ = length message in
     let zero : length key - 0 ≡ length key = omega arith in
-    ap₂ (put_mid b (b + b - b)) (ap₂ (λ x y. x ++ post_of 0 (length key - 0) y) c.copy-from-slice.ensures.after c.requires.1 ∙ ap (λ n. key ++ drop n (replicate (b + b) 0)) zero) c.copy-from-slice-2.ensures.after
+    ap₂ (put_mid b (b + b - b)) (ap₂ (λ x y. x ++ post_of 0 (length key - 0) y) c.copy_from_slice.ensures.after c.requires.1 ∙ ap (λ n. key ++ drop n (replicate (b + b) 0)) zero) c.copy_from_slice-2.ensures.after
     ∙ keyed_is key message (b + b - b) c.requires.0 (omega arith)

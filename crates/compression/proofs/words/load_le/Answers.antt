@@ -7,7 +7,7 @@ use Rattle.compression.proofs.words.load_le.Goals as goal
 pub loop-i-preserved : goal.loop-i-preserved
 loop-i-preserved c =
     let lt : c.loop-i.i < length c.loop-i.out = omega arith in
-    rw c.le-word.ensures (fill_by_more (word from_le 8 c.args.bytes.now) c.loop-i.out c.loop-i.i 0 lt c.loop-i.invariant)
+    rw c.le_word.ensures (fill_by_more (word from_le 8 c.args.bytes.now) c.loop-i.out c.loop-i.i 0 lt c.loop-i.invariant)
 
 pub returns : goal.returns
 unfolding words

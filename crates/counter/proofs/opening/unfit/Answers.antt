@@ -18,9 +18,9 @@ loop-i-preserved c =
 pub returns-then-broken-2 : goal.returns-then-broken-2
 returns-then-broken-2 c =
     let e : c.loop-i.i ≡ length c.args.stations.now = omega arith in
-    c.if-broken-2.true ∙ ap (λ b. b || ltb c.args.n c.loop-i.sum) (sym c.if-broken-2.true) ∙ unfit_is c.args.n c.args.stations.now c.loop-i.broken c.loop-i.sum c.loop-i.i c.if-stations-eq0.false c.if-stations-gt-MOST-STATIONS.false e c.loop-i.invariant.0 c.loop-i.invariant.1
+    c.if-broken-2.true ∙ ap (λ b. b || ltb c.args.n c.loop-i.sum) (sym c.if-broken-2.true) ∙ unfit_is c.args.n c.args.stations.now c.loop-i.broken c.loop-i.sum c.loop-i.i c.if-stations-eq0.false c.if-stations-gt-MOST_STATIONS.false e c.loop-i.invariant.0 c.loop-i.invariant.1
 
 pub returns-else-broken-2 : goal.returns-else-broken-2
 returns-else-broken-2 c =
     let e : c.loop-i.i ≡ length c.args.stations.now = omega arith in
-    ap (λ b. b || ltb c.args.n c.loop-i.sum) (sym c.if-broken-2.false) ∙ unfit_is c.args.n c.args.stations.now c.loop-i.broken c.loop-i.sum c.loop-i.i c.if-stations-eq0.false c.if-stations-gt-MOST-STATIONS.false e c.loop-i.invariant.0 c.loop-i.invariant.1
+    ap (λ b. b || ltb c.args.n c.loop-i.sum) (sym c.if-broken-2.false) ∙ unfit_is c.args.n c.args.stations.now c.loop-i.broken c.loop-i.sum c.loop-i.i c.if-stations-eq0.false c.if-stations-gt-MOST_STATIONS.false e c.loop-i.invariant.0 c.loop-i.invariant.1

@@ -11,7 +11,7 @@ unfolding sha256
 returns c =
     let h = c.args.h.now in
     let accepted : c.compress.result ≡ Ok tt =
-    c.compress.ensures.verdict ∙ accepts 32 16 32 c.split-at.result.0.now h c.split-at.result.1.now (replicate 32 0) (omega arith) (omega arith) (omega arith) (omega arith) (omega arith) in
+    c.compress.ensures.verdict ∙ accepts 32 16 32 c.split_at.result.0.now h c.split_at.result.1.now (replicate 32 0) (omega arith) (omega arith) (omega arith) (omega arith) (omega arith) in
     c.compress.ensures.after
-    ∙ ap (λ r. left r (replicate 32 0) (hashed h (keyed_block 32 c.split-at.result.0.now c.split-at.result.1.now))) accepted
-    ∙ ap (hashed h) (ap₂ (keyed_block 32) c.split-at.ensures.front c.split-at.ensures.back ∙ split_block 32 c.args.block.now (omega arith))
+    ∙ ap (λ r. left r (replicate 32 0) (hashed h (keyed_block 32 c.split_at.result.0.now c.split_at.result.1.now))) accepted
+    ∙ ap (hashed h) (ap₂ (keyed_block 32) c.split_at.ensures.front c.split_at.ensures.back ∙ split_block 32 c.args.block.now (omega arith))

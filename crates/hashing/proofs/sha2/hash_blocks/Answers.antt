@@ -9,7 +9,7 @@ loop-i-init c = (refl, refl)
 
 pub loop-i-preserved : goal.loop-i-preserved
 unfolding hash_after
-loop-i-preserved c = (c.absorb.array_long, rw add-one (c.absorb.ensures ∙ ap₂ hashed c.loop-i.invariant.1 c.padded-block.ensures))
+loop-i-preserved c = (c.absorb.array_long, rw add-one (c.absorb.ensures ∙ ap₂ hashed c.loop-i.invariant.1 c.padded_block.ensures))
 
 pub returns : goal.returns
 returns c =

@@ -8,8 +8,8 @@ pub returns : goal.returns
 returns c =
     let place : List ℕ = c.args.place.now in
     let header : List ℕ = c.args.header.now in
-    let fixed : List ℕ = c.args.kind ∷ (nonce c.args.label ++ (c.args.label.station ∷ length header ∷ c.args.message-len ∷ [])) in
-    let first : c.copy-from-slice.new.self ≡ fixed = c.copy-from-slice.ensures.after ∙ c.fixed.ensures in
-    let second : c.copy-from-slice-2.new.self ≡ header = c.copy-from-slice-2.ensures.after in
-    written_next fixed c.copy-from-slice-2.new.self place _ 16 _ (ap (λ x. x ++ drop 16 place) first) refl (omega (arith, ap length second))
+    let fixed : List ℕ = c.args.kind ∷ (nonce c.args.label ++ (c.args.label.station ∷ length header ∷ c.args.message_len ∷ [])) in
+    let first : c.copy_from_slice.new.self ≡ fixed = c.copy_from_slice.ensures.after ∙ c.fixed.ensures in
+    let second : c.copy_from_slice-2.new.self ≡ header = c.copy_from_slice-2.ensures.after in
+    written_next fixed c.copy_from_slice-2.new.self place _ 16 _ (ap (λ x. x ++ drop 16 place) first) refl (omega (arith, ap length second))
     ∙ ap (λ x. at_front (fixed ++ x) place) second

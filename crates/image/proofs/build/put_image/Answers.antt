@@ -14,8 +14,8 @@ front_of A buffer held n is long =
     let all : length A ≡ n - 0 = omega arith in
     ap (take (n - 0)) is ∙ take_at A _ (n - 0) all
 
-pub seal-parts-requires : goal.seal-parts-requires
-seal-parts-requires g c = record {
+pub seal_parts-requires : goal.seal_parts-requires
+seal_parts-requires g c = record {
   key = c.requires.key_taken;
   lengths = (simp length-take (omega arith), (simp length-take (omega arith), c.requires.message_fits));
   places = (simp (length-take, length-drop, length-append) (omega arith), omega arith);
@@ -33,16 +33,16 @@ returns g c =
     let fit = fits b g.met.C.Compression.blocked in
     let lawful = laws.lawful b F (omega arith) (λ H X. g.met.C.Compression.sized key H X) (λ H X. g.met.C.Compression.bytes key H X) in
     let A : List ℕ = front g.C.Compression.kind c.args.label header (length M) in
-    let made : c.put-front.new.place ≡ at_front A (replicate 80 0) =
-    c.put-front.ensures ∙ ap (λ k. at_front (front k c.args.label header (length M)) (replicate 80 0)) c.kind.ensures in
-    let is : take (n - 0) c.put-front.new.place ≡ A = front_of A (replicate 80 0) c.put-front.new.place n made (omega arith) in
+    let made : c.put_front.new.place ≡ at_front A (replicate 80 0) =
+    c.put_front.ensures ∙ ap (λ k. at_front (front k c.args.label header (length M)) (replicate 80 0)) c.kind.ensures in
+    let is : take (n - 0) c.put_front.new.place ≡ A = front_of A (replicate 80 0) c.put_front.new.place n made (omega arith) in
     let whole : n - 0 ≡ length A = omega arith in
-    let held : c.copy-from-slice.new.self ++ drop (n - 0) place ≡ at_front A place =
-    ap₂ (λ x k. x ++ drop k place) (c.copy-from-slice.ensures.after ∙ is) whole in
+    let held : c.copy_from_slice.new.self ++ drop (n - 0) place ≡ at_front A place =
+    ap₂ (λ x k. x ++ drop k place) (c.copy_from_slice.ensures.after ∙ is) whole in
     record {
       length = omega arith;
       place =
           placed g.C.Compression.kind b F fit.0 lawful c.args.label header M place _ _ _ n _ _ _ held (omega arith) (omega arith) (omega arith) (omega arith)
-          (c.seal-parts.ensures.ciphertext ∙ ap (λ X. (sealed b F (take 12 (drop 1 X)) X M 16).0) is)
-          (c.copy-from-slice-2.ensures.after ∙ c.seal-parts.ensures.tag ∙ ap (λ X. (sealed b F (take 12 (drop 1 X)) X M 16).1) is);
+          (c.seal_parts.ensures.ciphertext ∙ ap (λ X. (sealed b F (take 12 (drop 1 X)) X M 16).0) is)
+          (c.copy_from_slice-2.ensures.after ∙ c.seal_parts.ensures.tag ∙ ap (λ X. (sealed b F (take 12 (drop 1 X)) X M 16).1) is);
     }

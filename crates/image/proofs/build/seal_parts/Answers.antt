@@ -27,6 +27,6 @@ returns g c =
     let accepted : seal_verdict b g.C.Compression.shortest g.C.Compression.longest key N A M 16 ciphertext tag ≡ Ok tt =
     fitting b g.C.Compression.shortest g.C.Compression.longest key N A M (length ciphertext) (length tag) fit.0 c.requires.key n_long (omega arith) (omega arith) (omega arith) (omega arith) (omega arith) in
     record {
-      ciphertext = filled_by _ _ (length M) C ciphertext _ c.seal-behind.ensures.answer accepted c.seal-behind.ensures.ciphertext (omega arith);
-      tag = filled_by _ _ (length M) T tag _ c.seal-behind.ensures.answer accepted c.seal-behind.ensures.tag (omega arith);
+      ciphertext = filled_by _ _ (length M) C ciphertext _ c.seal_behind.ensures.answer accepted c.seal_behind.ensures.ciphertext (omega arith);
+      tag = filled_by _ _ (length M) T tag _ c.seal_behind.ensures.answer accepted c.seal_behind.ensures.tag (omega arith);
     }

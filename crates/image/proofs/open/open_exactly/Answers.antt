@@ -15,7 +15,7 @@ returns g c =
     let bytes : AllBelowBase 256 image = All-from_get_or _ image 0 (λ i h. search rules) in
     let lawful = laws.lawful b (g.C.Compression.meaning key) (omega arith) (λ H M. g.met.C.Compression.sized key H M) (λ H M. g.met.C.Compression.bytes key H M) in
     record {
-      answer = c.open-named.ensures.answer;
-      place = c.open-named.ensures.place;
-      built = exactly g.C.Compression.kind b g.C.Compression.shortest g.C.Compression.longest g.C.Compression.meaning key image c.args.place.now _ _ fit.0 lawful bytes c.open-named.ensures.answer c.open-named.ensures.place;
+      answer = c.open_named.ensures.answer;
+      place = c.open_named.ensures.place;
+      built = exactly g.C.Compression.kind b g.C.Compression.shortest g.C.Compression.longest g.C.Compression.meaning key image c.args.place.now _ _ fit.0 lawful bytes c.open_named.ensures.answer c.open_named.ensures.place;
     }

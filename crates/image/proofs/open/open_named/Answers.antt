@@ -28,16 +28,16 @@ looked kind I r p ok is =
       long = ap (λ s. length s.ciphertext) both.1 ∙ ciphertext_long kind I (accepted kind I both.0);
     }
 
-pub returns-in-err-parts : goal.returns-in-err-parts
-returns-in-err-parts g c =
+pub returns-in_err-parts : goal.returns-in_err-parts
+returns-in_err-parts g c =
     let kind : ℕ = g.C.Compression.kind in
     let I : List ℕ = c.args.image.now in
-    let e : Refusal = c.in-err-parts.field-0.0 in
+    let e : Refusal = c.in_err-parts.field-0.0 in
     let at : shown c.look.result ≡ answered (look_verdict kind I) (shown_in I) =
     looked_at _ kind _ I c.look.result (c.new.ensures.kind ∙ c.from.ensures ∙ c.kind.ensures) c.new.ensures.bytes c.look.ensures.parts in
-    let refuses : look_verdict kind I ≡ Err e = shown_err (look_verdict kind I) (shown_in I) c.look.result e c.in-err-parts.was at in
-    let ends = look_refuses kind g.C.Compression.block g.C.Compression.shortest g.C.Compression.longest g.C.Compression.meaning c.args.key.now I c.args.place.now (sym c.key-tested.ensures ∙ c.in-ok-key-tested.was) e refuses in
-    let is : c.from-residual-in-err-parts.result ≡ Err e = search rules in
+    let refuses : look_verdict kind I ≡ Err e = shown_err (look_verdict kind I) (shown_in I) c.look.result e c.in_err-parts.was at in
+    let ends = look_refuses kind g.C.Compression.block g.C.Compression.shortest g.C.Compression.longest g.C.Compression.meaning c.args.key.now I c.args.place.now (sym c.key_tested.ensures ∙ c.in_ok-key_tested.was) e refuses in
+    let is : c.from-residual-in_err-parts.result ≡ Err e = search rules in
     record { answer = is ∙ ends.answer; place = ends.place_is }
 
 pub returns-then-place-parts : goal.returns-then-place-parts
@@ -46,19 +46,19 @@ returns-then-place-parts g c =
     let I : List ℕ = c.args.image.now in
     let at : shown c.look.result ≡ answered (look_verdict kind I) (shown_in I) =
     looked_at _ kind _ I c.look.result (c.new.ensures.kind ∙ c.from.ensures ∙ c.kind.ensures) c.new.ensures.bytes c.look.ensures.parts in
-    let l : Looked kind I c.in-ok-parts.parts = looked kind I c.look.result c.in-ok-parts.parts c.in-ok-parts.was at in
-    let ends = place_refuses kind g.C.Compression.block g.C.Compression.shortest g.C.Compression.longest g.C.Compression.meaning c.args.key.now I c.args.place.now (sym c.key-tested.ensures ∙ c.in-ok-key-tested.was) l.verdict (omega (arith, l.long, c.if-place-parts.true)) in
+    let l : Looked kind I c.in_ok-parts.parts = looked kind I c.look.result c.in_ok-parts.parts c.in_ok-parts.was at in
+    let ends = place_refuses kind g.C.Compression.block g.C.Compression.shortest g.C.Compression.longest g.C.Compression.meaning c.args.key.now I c.args.place.now (sym c.key_tested.ensures ∙ c.in_ok-key_tested.was) l.verdict (omega (arith, l.long, c.if-place-parts.true)) in
     record { answer = ends.answer; place = ends.place_is }
 
-pub open-parts-requires : goal.open-parts-requires
-open-parts-requires g c =
+pub open_parts-requires : goal.open_parts-requires
+open_parts-requires g c =
     let kind : ℕ = g.C.Compression.kind in
     let I : List ℕ = c.args.image.now in
     let at : shown c.look.result ≡ answered (look_verdict kind I) (shown_in I) =
     looked_at _ kind _ I c.look.result (c.new.ensures.kind ∙ c.from.ensures ∙ c.kind.ensures) c.new.ensures.bytes c.look.ensures.parts in
-    let l : Looked kind I c.in-ok-parts.parts = looked kind I c.look.result c.in-ok-parts.parts c.in-ok-parts.was at in
+    let l : Looked kind I c.in_ok-parts.parts = looked kind I c.look.result c.in_ok-parts.parts c.in_ok-parts.was at in
     record {
-      key = sym c.key-tested.ensures ∙ c.in-ok-key-tested.was;
+      key = sym c.key_tested.ensures ∙ c.in_ok-key_tested.was;
       looked = l.verdict;
       parts = l.parts;
       place = omega (arith, l.long, c.if-place-parts.false);
@@ -70,6 +70,6 @@ returns g c =
     let I : List ℕ = c.args.image.now in
     let at : shown c.look.result ≡ answered (look_verdict kind I) (shown_in I) =
     looked_at _ kind _ I c.look.result (c.new.ensures.kind ∙ c.from.ensures ∙ c.kind.ensures) c.new.ensures.bytes c.look.ensures.parts in
-    let l : Looked kind I c.in-ok-parts.parts = looked kind I c.look.result c.in-ok-parts.parts c.in-ok-parts.was at in
-    let ends = tag_decides kind g.C.Compression.block g.C.Compression.shortest g.C.Compression.longest g.C.Compression.meaning c.args.key.now I c.args.place.now (sym c.key-tested.ensures ∙ c.in-ok-key-tested.was) l.verdict (omega (arith, l.long, c.if-place-parts.false)) _ _ c.open-parts.ensures.answer c.open-parts.ensures.place in
+    let l : Looked kind I c.in_ok-parts.parts = looked kind I c.look.result c.in_ok-parts.parts c.in_ok-parts.was at in
+    let ends = tag_decides kind g.C.Compression.block g.C.Compression.shortest g.C.Compression.longest g.C.Compression.meaning c.args.key.now I c.args.place.now (sym c.key_tested.ensures ∙ c.in_ok-key_tested.was) l.verdict (omega (arith, l.long, c.if-place-parts.false)) _ _ c.open_parts.ensures.answer c.open_parts.ensures.place in
     record { answer = ends.answer; place = ends.place_is }

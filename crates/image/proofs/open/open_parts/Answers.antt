@@ -14,8 +14,8 @@ nonce_in_front I n long =
     let split : n ≡ 1 + m = omega arith in
     ap (λ k. take 12 (drop 1 (take k I))) split ∙ ap (take 12) (drop-take 1 m I) ∙ take-take 12 m (drop 1 I) (omega arith)
 
-pub slice-bounds-open-behind-end : goal.slice-bounds-open-behind-end
-slice-bounds-open-behind-end g c =
+pub slice_bounds-open_behind-end : goal.slice_bounds-open_behind-end
+slice_bounds-open_behind-end g c =
     let I : List ℕ = c.args.image.now in
     let is : Accepted g.C.Compression.kind I = accepted g.C.Compression.kind I c.requires.looked in
     let at : c.args.parts.ciphertext_at ≡ 16 + header_length I = ap (λ s. s.ciphertext_at) c.requires.parts in
@@ -34,5 +34,5 @@ returns g c =
     let nonce_is : take 12 (drop 1 (take (c.args.parts.ciphertext_at - 0) I)) ≡ nonce_of I = nonce_in_front I _ (omega arith) in
     let ciphertext_is : c.args.parts.ciphertext.now ≡ ciphertext_of I = ap (λ s. s.ciphertext) c.requires.parts in
     let tag_is : c.args.parts.tag.now ≡ tag_of I = ap (λ s. s.tag) c.requires.parts in
-    let end = sealed_end g.C.Compression.kind b g.C.Compression.shortest g.C.Compression.longest g.C.Compression.meaning key I place fit.0 c.requires.key is c.requires.place _ _ _ _ nonce_is data_is ciphertext_is tag_is _ _ c.open-behind.ensures.answer c.open-behind.ensures.place in
+    let end = sealed_end g.C.Compression.kind b g.C.Compression.shortest g.C.Compression.longest g.C.Compression.meaning key I place fit.0 c.requires.key is c.requires.place _ _ _ _ nonce_is data_is ciphertext_is tag_is _ _ c.open_behind.ensures.answer c.open_behind.ensures.place in
     record { answer = end.0; place = end.1 }

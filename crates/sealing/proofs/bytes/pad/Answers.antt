@@ -11,4 +11,4 @@ returns c =
     let m : ℕ = length c.args.place.now in
     let rest : drop (n - 0) c.args.place.now ≡ 0 ∷ zeros (m - n - 1) =
     ap (drop (n - 0)) c.requires.1 ∙ drop-replicate (n - 0) m 0 ∙ ap zeros (let e : m - (n - 0) ≡ suc (m - n - 1) = omega arith in e) in
-    ap₂ (λ x y. set (x ++ y) n 0x80) c.copy-from-slice.ensures.after rest ∙ set_at text 0 (zeros (m - n - 1)) 0x80 n (let e : length text ≡ n = omega arith in e)
+    ap₂ (λ x y. set (x ++ y) n 0x80) c.copy_from_slice.ensures.after rest ∙ set_at text 0 (zeros (m - n - 1)) 0x80 n (let e : length text ≡ n = omega arith in e)

@@ -19,18 +19,18 @@ is_some false x = refl
 written_over : (xs ys place : List ℕ) → length xs ≡ length ys → at_front xs (at_front ys place) ≡ at_front xs place
 written_over xs ys place e = ap (λ zs. xs ++ zs) (drop_at ys (drop (length ys) place) (length xs) (sym e) ∙ ap (λ k. drop k place) (sym e))
 
-pub crossed-and-tagged-requires : goal.crossed-and-tagged-requires
-crossed-and-tagged-requires g c =
+pub crossed_and_tagged-requires : goal.crossed_and_tagged-requires
+crossed_and_tagged-requires g c =
     let fit = fits g.C.Compression.block g.met.C.Compression.blocked in
     let f = fitting g.C.Compression.block g.C.Compression.shortest g.C.Compression.longest c.args.key.now c.args.nonce.now c.args.data.now c.args.ciphertext.now (length c.args.tag.now) _ _ c.requires in
     record {
       key = (f.key_low, f.key_high);
-      lengths = (omega arith, (f.data-low, (f.data-high, f.text_high)));
+      lengths = (omega arith, (f.data_low, (f.data_high, f.text_high)));
       places = (simp length-take (omega arith), simp length-take (omega arith));
     }
 
-pub slice-bounds-same-end : goal.slice-bounds-same-end
-slice-bounds-same-end g c =
+pub slice_bounds-same-end : goal.slice_bounds-same-end
+slice_bounds-same-end g c =
     let fit = fits g.C.Compression.block g.met.C.Compression.blocked in
     let f = fitting g.C.Compression.block g.C.Compression.shortest g.C.Compression.longest c.args.key.now c.args.nonce.now c.args.data.now c.args.ciphertext.now (length c.args.tag.now) _ _ c.requires in
     search (rules, places)
@@ -49,11 +49,11 @@ returns g c =
     let fit = fits b g.met.C.Compression.blocked in
     let f = fitting b g.C.Compression.shortest g.C.Compression.longest key N c.args.data.now C t _ _ c.requires in
     let A : List ℕ = c.args.data.now in
-    let text : List ℕ = c.crossed-and-tagged.new.output in
-    let made : List ℕ = c.crossed-and-tagged.new.tag in
+    let text : List ℕ = c.crossed_and_tagged.new.output in
+    let made : List ℕ = c.crossed_and_tagged.new.tag in
     let t_long : length (take (t - 0) (replicate 64 0)) ≡ t = simp (length-take, length-replicate) (omega arith) in
-    let is_text : text ≡ other_text b F Opening N t C = c.crossed-and-tagged.ensures.text ∙ ap (λ k. other_text b F Opening N k C) t_long in
-    let is_tag : made ≡ Tag b F Opening N A t C = c.crossed-and-tagged.ensures.tag ∙ ap (λ k. Tag b F Opening N A k C) t_long in
+    let is_text : text ≡ other_text b F Opening N t C = c.crossed_and_tagged.ensures.text ∙ ap (λ k. other_text b F Opening N k C) t_long in
+    let is_tag : made ≡ Tag b F Opening N A t C = c.crossed_and_tagged.ensures.tag ∙ ap (λ k. Tag b F Opening N A k C) t_long in
     let size : length (other_text b F Opening N t C) ≡ n = length_other b F (λ H M. g.met.C.Compression.sized key H M) Opening N t C (omega arith) in
     let long : length made ≡ t - 0 = search (rules, places) in
     let message : text ++ drop (n - 0) old ≡ at_front (other_text b F Opening N t C) old =

@@ -8,4 +8,4 @@ pub returns : goal.returns
 returns c =
     let xs : List ℕ = c.args.s.now in
     let bytes : AllBelowBase 256 xs = All-from_get_or _ xs 0 (λ i h. search rules) in
-    simp c.shift-left.ensures (double_is xs c.high.result (search rules) bytes c.high.type-inv c.high.ensures)
+    simp c.shift_left.ensures (double_is xs c.high.result (search rules) bytes c.high.type_inv c.high.ensures)

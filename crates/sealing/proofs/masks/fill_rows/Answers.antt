@@ -17,11 +17,11 @@ loop-i-preserved c =
     let fit = fits b c.requires.0 in
     let i : ℕ = c.loop-i.i in
     let whole : b - 0 ≡ b = omega arith in
-    let row : List ℕ = c.double-block.new.s in
+    let row : List ℕ = c.double_block.new.s in
     let long : length row ≡ b = search (rules, places) in
     let inv = c.loop-i.invariant in
     let is : take b _ ≡ doublings i (take b c.args.twice.now) =
-    take_at row _ b long ∙ c.double-block.ensures ∙ ap (λ n. double (take n c.loop-i.row)) whole ∙ ap double inv.2 ∙ next i (take b c.args.twice.now) in (
+    take_at row _ b long ∙ c.double_block.ensures ∙ ap (λ n. double (take n c.loop-i.row)) whole ∙ ap double inv.2 ∙ next i (take b c.args.twice.now) in (
       search (rules, places),
       simp length-set inv.1,
       rw add-one is,

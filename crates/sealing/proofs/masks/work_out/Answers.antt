@@ -11,31 +11,31 @@ use Rattle.sealing.proofs.masks.work_out.Goals as goal
 cut : (n b : ℕ) → n ≡ b → (xs : List ℕ) → take n xs ≡ take b xs
 cut n b e xs = ap (λ k. take k xs) e
 
-pub slice-bounds-twice-end : goal.slice-bounds-twice-end
-slice-bounds-twice-end g c = let fit = fits g.C.Compression.block g.met.C.Compression.blocked in search (rules, places)
+pub slice_bounds-twice-end : goal.slice_bounds-twice-end
+slice_bounds-twice-end g c = let fit = fits g.C.Compression.block g.met.C.Compression.blocked in search (rules, places)
 
 pub returns : goal.returns
 unfolding L⋆
 returns g c =
     let b : ℕ = g.C.Compression.block in
     let F = g.C.Compression.meaning c.args.key.now in
-    let n : ℕ = c.block-len-b.result in
-    let e : n ≡ b = c.block-len-b.ensures in
+    let n : ℕ = c.block_len-b.result in
+    let e : n ≡ b = c.block_len-b.ensures in
     let fit = fits b g.met.C.Compression.blocked in
     let zero = zeros_front n b e fit.1 in
     let first : List ℕ = c.compress.new.place in
-    let second : List ℕ = c.double-block.new.s in
+    let second : List ℕ = c.double_block.new.s in
     let is_first : first ≡ L⋆ b F = c.compress.ensures ∙ ap₂ F zero zero in
     let long_first : length first ≡ b = ap length is_first ∙ g.met.C.Compression.sized _ _ _ in
     let once : take b _ ≡ L⋆ b F = take_at first _ b long_first ∙ is_first in
-    let is_second : second ≡ double (L⋆ b F) = c.double-block.ensures ∙ ap double (front n b e _ ∙ once) in
+    let is_second : second ≡ double (L⋆ b F) = c.double_block.ensures ∙ ap double (front n b e _ ∙ once) in
     let long_second : length second ≡ b = search (rules, places) in
     let twice : take b _ ≡ double (L⋆ b F) = take_at second _ b long_second ∙ is_second in
     record {
       once = once;
       twice = twice;
       rows = λ i low high.
-          sym (cut n b e (get_or c.fill-rows.new.rows (ntz i) []))
-          ∙ c.fill-rows.ensures (ntz i) (few_zeros 64 _ i low (lt_of_le_of_lt high c.rows-needed.ensures.enough))
+          sym (cut n b e (get_or c.fill_rows.new.rows (ntz i) []))
+          ∙ c.fill_rows.ensures (ntz i) (few_zeros 64 _ i low (lt_of_le_of_lt high c.rows_needed.ensures.enough))
           ∙ ap (doublings (ntz i)) (cut n b e _ ∙ twice) ∙ L_is b F (ntz i);
     }

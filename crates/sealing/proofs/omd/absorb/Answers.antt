@@ -4,19 +4,19 @@ use Rattle.sealing.specs.Strings.{◌⊕◌}
 use Rattle.sealing.proofs.Buffers.{fits, front}
 use Rattle.sealing.proofs.omd.absorb.Goals as goal
 
-pub slice-bounds-value-end-2 : goal.slice-bounds-value-end-2
-slice-bounds-value-end-2 g c = let fit = fits g.C.Compression.block g.met.C.Compression.blocked in search (rules, places)
+pub slice_bounds-value-end-2 : goal.slice_bounds-value-end-2
+slice_bounds-value-end-2 g c = let fit = fits g.C.Compression.block g.met.C.Compression.blocked in search (rules, places)
 
-pub slice-bounds-add-end : goal.slice-bounds-add-end
-slice-bounds-add-end g c = let fit = fits g.C.Compression.block g.met.C.Compression.blocked in search (rules, places)
+pub slice_bounds-add-end : goal.slice_bounds-add-end
+slice_bounds-add-end g c = let fit = fits g.C.Compression.block g.met.C.Compression.blocked in search (rules, places)
 
 pub returns : goal.returns
 returns g c =
     let b : ℕ = g.C.Compression.block in
-    let n : ℕ = c.block-len-b.result in
-    let e : n ≡ b = c.block-len-b.ensures in
+    let n : ℕ = c.block_len-b.result in
+    let e : n ≡ b = c.block_len-b.ensures in
     let fit = fits b g.met.C.Compression.blocked in
-    let first : List ℕ = c.copy-from-slice.new.self in
+    let first : List ℕ = c.copy_from_slice.new.self in
     let value : List ℕ = c.fold.new.chaining in
     let block : List ℕ = c.args.block.now in
     let long_first : length first ≡ n - 0 = search (rules, places) in
@@ -24,5 +24,5 @@ returns g c =
     c.add.ensures ∙ ap (λ v. c.args.to.now ⊕ v)
     (take_at value _ (n - 0) long ∙ c.fold.ensures
     ∙ ap₂ (λ x y. g.C.Compression.meaning c.args.key.now (x ⊕ c.args.mask.now) y)
-    (take_at first _ (n - 0) long_first ∙ c.copy-from-slice.ensures.after ∙ c.split-at.ensures.front ∙ ap (λ k. take k block) e)
-    (c.split-at.ensures.back ∙ ap (λ k. drop k block) e))
+    (take_at first _ (n - 0) long_first ∙ c.copy_from_slice.ensures.after ∙ c.split_at.ensures.front ∙ ap (λ k. take k block) e)
+    (c.split_at.ensures.back ∙ ap (λ k. drop k block) e))

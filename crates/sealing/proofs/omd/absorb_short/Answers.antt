@@ -5,15 +5,15 @@ use Rattle.sealing.specs.Omd.{halves}
 use Rattle.sealing.proofs.Buffers.{fits, front}
 use Rattle.sealing.proofs.omd.absorb_short.Goals as goal
 
-pub slice-bounds-absorb-end : goal.slice-bounds-absorb-end
-slice-bounds-absorb-end g c = let fit = fits g.C.Compression.block g.met.C.Compression.blocked in search (rules, places)
+pub slice_bounds-absorb-end : goal.slice_bounds-absorb-end
+slice_bounds-absorb-end g c = let fit = fits g.C.Compression.block g.met.C.Compression.blocked in search (rules, places)
 
 pub returns : goal.returns
 returns g c =
     let b : ℕ = g.C.Compression.block in
-    let n : ℕ = c.block-len-b.result in
-    let e : n ≡ b = c.block-len-b.ensures in
-    let m : ℕ = c.data-block-len-n.result in
+    let n : ℕ = c.block_len-b.result in
+    let e : n ≡ b = c.block_len-b.ensures in
+    let m : ℕ = c.data_block_len-n.result in
     let fit = fits b g.met.C.Compression.blocked in
     let block : List ℕ = c.pad.new.place in
     let long : length block ≡ m - 0 = search (rules, places) in

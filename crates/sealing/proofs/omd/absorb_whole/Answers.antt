@@ -13,10 +13,10 @@ pub loop-i-init : goal.loop-i-init
 unfolding Δ summed
 loop-i-init g c = (c.requires.places.1.0, c.requires.places.1.1)
 
-pub add-row-requires : goal.add-row-requires
-add-row-requires g c =
+pub add_row-requires : goal.add_row-requires
+add_row-requires g c =
     let fit = fits g.C.Compression.block g.met.C.Compression.blocked in
-    let n : ℕ = c.data-block-len-b.result in
+    let n : ℕ = c.data_block_len-b.result in
     let long : length c.args.mask.now ≡ g.C.Compression.block = ap length c.requires.places.1.0 ∙ length-replicate g.C.Compression.block 0 in
     let small = small_number c.loop-i.i n (length c.args.data.now) c.loop-i-test.true (omega arith) c.requires.places.0 in
     (omega arith, (omega arith, omega arith))
@@ -24,7 +24,7 @@ add-row-requires g c =
 pub absorb-requires : goal.absorb-requires
 absorb-requires g c =
     let fit = fits g.C.Compression.block g.met.C.Compression.blocked in
-    let n : ℕ = c.data-block-len-b.result in
+    let n : ℕ = c.data_block_len-b.result in
     let long : length c.args.mask.now ≡ g.C.Compression.block = ap length c.requires.places.1.0 ∙ length-replicate g.C.Compression.block 0 in
     let long' : length c.args.to.now ≡ g.C.Compression.block = ap length c.requires.places.1.1 ∙ length-replicate g.C.Compression.block 0 in
     let within = whole_block c.loop-i.i n (length c.args.data.now) c.loop-i-test.true in
@@ -36,8 +36,8 @@ loop-i-preserved g c =
     let F = g.C.Compression.meaning c.args.key.now in
     let A : List ℕ = c.args.data.now in
     let i : ℕ = c.loop-i.i in
-    let n : ℕ = c.data-block-len-b.result in
-    let e : n ≡ 2 * b = c.data-block-len-b.ensures in
+    let n : ℕ = c.data_block_len-b.result in
+    let e : n ≡ 2 * b = c.data_block_len-b.ensures in
     let inv = c.loop-i.invariant in
     let fit = fits b g.met.C.Compression.blocked in
     let within = whole_block i n (length A) c.loop-i-test.true in
@@ -45,8 +45,8 @@ loop-i-preserved g c =
     let size : length (block (2 * b) A i) ≡ 2 * b = ap length (sym part) ∙ simp (length-take, length-drop) (omega arith) in
     let long : length c.loop-i.mask ≡ b = omega (arith, ap length c.requires.places.1.0, length-replicate {A = ℕ} b 0) in
     let upto : i < length A / (2 * b) = subst (λ k. i < length A / k) e c.loop-i-test.true in
-    let mask : c.add-row.new.to ≡ Δ b F (zeros b) (i + 1) =
-    c.add-row.ensures ∙ ap₂ (λ m k. m ⊕ take k (get_or c.args.masks.now.rows (ntz (i + 1)) [])) inv.0 long
+    let mask : c.add_row.new.to ≡ Δ b F (zeros b) (i + 1) =
+    c.add_row.ensures ∙ ap₂ (λ m k. m ⊕ take k (get_or c.args.masks.now.rows (ntz (i + 1)) [])) inv.0 long
     ∙ Δ_more b F (zeros b) i _ c.args.masks.now upto c.requires.masks in (
       mask,
       c.absorb.ensures ∙ ap₂ ◌⊕◌ inv.1 (ap₂ (halves b F) part mask ∙ sym (absorbed_whole b F A i size)) ∙ sym (summed_more b (absorbed b F A) i),

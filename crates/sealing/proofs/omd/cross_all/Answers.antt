@@ -15,10 +15,10 @@ loop-i-init g c =
     let rows = c.args.masks.now.rows in
     let first = c.start.ensures in
     let long : length c.start.new.mask ≡ b = search rules in
-    let mask : c.add-row.new.to ≡ Δ b F (Δ₀ b F c.args.nonce.now) 1 =
-    c.add-row.ensures ∙ ap₂ (λ x n. x ⊕ take n (get_or rows (ntz 1) [])) first long
+    let mask : c.add_row.new.to ≡ Δ b F (Δ₀ b F c.args.nonce.now) 1 =
+    c.add_row.ensures ∙ ap₂ (λ x n. x ⊕ take n (get_or rows (ntz 1) [])) first long
     ∙ Δ_more b F (Δ₀ b F c.args.nonce.now) 0 _ c.args.masks.now (omega arith) c.requires.masks in
-    (sym (ap (λ k. drop k c.args.output.now) (zero-mul b)), mask, c.first-chaining.ensures ∙ ap (λ x. F x (to_be b (8 * c.args.tag-len))) mask)
+    (sym (ap (λ k. drop k c.args.output.now) (zero-mul b)), mask, c.first_chaining.ensures ∙ ap (λ x. F x (to_be b (8 * c.args.tag_len))) mask)
 
 pub loop-i-preserved : goal.loop-i-preserved
 unfolding chaining_at
@@ -27,13 +27,13 @@ loop-i-preserved g c =
     let F = g.C.Compression.meaning c.args.key.now in
     let way = c.args.way in
     let N : List ℕ = c.args.nonce.now in
-    let t : ℕ = c.args.tag-len in
+    let t : ℕ = c.args.tag_len in
     let X : List ℕ = c.args.input.now in
     let i : ℕ = c.loop-i.i in
-    let n : ℕ = c.block-len-b.result in
-    let e : n ≡ b = c.block-len-b.ensures in
+    let n : ℕ = c.block_len-b.result in
+    let e : n ≡ b = c.block_len-b.ensures in
     let inv = c.loop-i.invariant in
-    let last : i < (length X - 1) / b = subst (λ m. i < (length X - 1) / m) e (subst (λ m. i < m / n) c.saturating-sub.ensures c.loop-i-test.true) in
+    let last : i < (length X - 1) / b = subst (λ m. i < (length X - 1) / m) e (subst (λ m. i < m / n) c.saturating_sub.ensures c.loop-i-test.true) in
     let within : i * b + b ≤ length X - 1 = whole_block i b (length X - 1) last in
     let part : take (i * n + n - i * n) (drop (i * n) X) ≡ block b X i = part_block n b i X e in
     let long : length c.cross.new.output ≡ b = search (rules, places) in

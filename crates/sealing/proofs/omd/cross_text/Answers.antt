@@ -7,8 +7,8 @@ use Rattle.sealing.proofs.Buffers.{fits, front}
 use Rattle.sealing.proofs.Steps.{last_part, put_last}
 use Rattle.sealing.proofs.omd.cross_text.Goals as goal
 
-pub slice-bounds-mask-end-2 : goal.slice-bounds-mask-end-2
-slice-bounds-mask-end-2 g c = let fit = fits g.C.Compression.block g.met.C.Compression.blocked in search (rules, places)
+pub slice_bounds-mask-end-2 : goal.slice_bounds-mask-end-2
+slice_bounds-mask-end-2 g c = let fit = fits g.C.Compression.block g.met.C.Compression.blocked in search (rules, places)
 
 pub returns : goal.returns
 unfolding other_text
@@ -17,22 +17,22 @@ returns g c =
     let F = g.C.Compression.meaning c.args.key.now in
     let way = c.args.way in
     let N : List ℕ = c.args.nonce.now in
-    let t : ℕ = c.args.tag-len in
+    let t : ℕ = c.args.tag_len in
     let X : List ℕ = c.args.input.now in
-    let n : ℕ = c.block-len-b.result in
-    let e : n ≡ b = c.block-len-b.ensures in
+    let n : ℕ = c.block_len-b.result in
+    let e : n ≡ b = c.block_len-b.ensures in
     let fit = fits b g.met.C.Compression.blocked in
     let last : ℕ = last_block b X in
-    let a : ℕ = c.saturating-sub.result / n * n in
-    let at : a ≡ last * b = ap₂ (λ m k. m / k * k) c.saturating-sub.ensures e in
-    let mask : List ℕ = c.cross-all.new.mask in
-    let chaining : c.cross-all.new.chaining ≡ chaining_at b F way N t X last = c.cross-all.ensures.chaining in
+    let a : ℕ = c.saturating_sub.result / n * n in
+    let at : a ≡ last * b = ap₂ (λ m k. m / k * k) c.saturating_sub.ensures e in
+    let mask : List ℕ = c.cross_all.new.mask in
+    let chaining : c.cross_all.new.chaining ≡ chaining_at b F way N t X last = c.cross_all.ensures.chaining in
     let long : length mask ≡ n - 0 = search (rules, places) in
     let part : take (length X - a) (drop a X) ≡ block b X last = last_part b a X (omega arith) at in
-    let out : c.cross-last.new.output ≡ crossed b F way N t X last = c.cross-last.ensures.text ∙ ap₂ ◌⊕◌ chaining part in
+    let out : c.cross_last.new.output ≡ crossed b F way N t X last = c.cross_last.ensures.text ∙ ap₂ ◌⊕◌ chaining part in
     record {
-      text = put_last (crossed b F way N t X) b a _ X c.cross-all.new.output c.args.output.now c.cross-last.new.output (omega arith) at (omega arith) (omega arith) (omega arith) c.cross-all.ensures.text out;
-      end = c.cross-last.ensures.end
-          ∙ ap₂ (λ m h. ended b F m h (plain way h (take (length X - a) (drop a X)))) (take_at mask _ (n - 0) long ∙ c.cross-all.ensures.mask) chaining
+      text = put_last (crossed b F way N t X) b a _ X c.cross_all.new.output c.args.output.now c.cross_last.new.output (omega arith) at (omega arith) (omega arith) (omega arith) c.cross_all.ensures.text out;
+      end = c.cross_last.ensures.end
+          ∙ ap₂ (λ m h. ended b F m h (plain way h (take (length X - a) (drop a X)))) (take_at mask _ (n - 0) long ∙ c.cross_all.ensures.mask) chaining
           ∙ ap (λ x. ended b F (Δ b F (Δ₀ b F N) (last + 1)) (chaining_at b F way N t X last) (plain way (chaining_at b F way N t X last) x)) part;
     }

@@ -4,17 +4,17 @@ use Rattle.sealing.specs.Strings.{◌⊕◌, padded}
 use Rattle.sealing.proofs.Buffers.{fits, front}
 use Rattle.sealing.proofs.omd.end_short.Goals as goal
 
-pub slice-bounds-add-end : goal.slice-bounds-add-end
-slice-bounds-add-end g c = let fit = fits g.C.Compression.block g.met.C.Compression.blocked in search (rules, places)
+pub slice_bounds-add-end : goal.slice_bounds-add-end
+slice_bounds-add-end g c = let fit = fits g.C.Compression.block g.met.C.Compression.blocked in search (rules, places)
 
-pub slice-bounds-fold-end : goal.slice-bounds-fold-end
-slice-bounds-fold-end g c = let fit = fits g.C.Compression.block g.met.C.Compression.blocked in search (rules, places)
+pub slice_bounds-fold-end : goal.slice_bounds-fold-end
+slice_bounds-fold-end g c = let fit = fits g.C.Compression.block g.met.C.Compression.blocked in search (rules, places)
 
 pub returns : goal.returns
 returns g c =
     let b : ℕ = g.C.Compression.block in
-    let n : ℕ = c.block-len-b.result in
-    let e : n ≡ b = c.block-len-b.ensures in
+    let n : ℕ = c.block_len-b.result in
+    let e : n ≡ b = c.block_len-b.ensures in
     let fit = fits b g.met.C.Compression.blocked in
     let thrice : List ℕ = c.sum.new.place in
     let block : List ℕ = c.pad.new.place in

@@ -5,6 +5,6 @@ use Rattle.sealing.proofs.omd.put_number.Goals as goal
 
 pub returns : goal.returns
 returns c =
-    let bytes : List ℕ = c.copy-from-slice.new.self in
-    let is : bytes ≡ to_be 8 c.args.n = c.copy-from-slice.ensures.after ∙ c.to-be-bytes.ensures ∙ simp div-one in
+    let bytes : List ℕ = c.copy_from_slice.new.self in
+    let is : bytes ≡ to_be 8 c.args.n = c.copy_from_slice.ensures.after ∙ c.to_be_bytes.ensures ∙ simp div-one in
     number_put (length c.args.place.now) 8 _ c.args.n c.args.place.now bytes c.requires.0 (omega arith) c.requires.1 is (omega arith)

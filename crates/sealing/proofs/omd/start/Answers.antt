@@ -5,15 +5,15 @@ use Rattle.sealing.specs.Strings.{padded}
 use Rattle.sealing.proofs.Buffers.{fits, zeros_front}
 use Rattle.sealing.proofs.omd.start.Goals as goal
 
-pub slice-bounds-compress-end : goal.slice-bounds-compress-end
-slice-bounds-compress-end g c = let fit = fits g.C.Compression.block g.met.C.Compression.blocked in search (rules, places)
+pub slice_bounds-compress-end : goal.slice_bounds-compress-end
+slice_bounds-compress-end g c = let fit = fits g.C.Compression.block g.met.C.Compression.blocked in search (rules, places)
 
 pub returns : goal.returns
 unfolding Δ₀
 returns g c =
     let b : ℕ = g.C.Compression.block in
-    let n : ℕ = c.block-len-b.result in
-    let e : n ≡ b = c.block-len-b.ensures in
+    let n : ℕ = c.block_len-b.result in
+    let e : n ≡ b = c.block_len-b.ensures in
     let fit = fits b g.met.C.Compression.blocked in
     let block : List ℕ = c.pad.new.place in
     let long : length block ≡ n - 0 = search (rules, places) in

@@ -3,14 +3,14 @@ use Rattle.std.specs.Char.{is_ascii_digit}
 use Rattle.std.proofs.lemmas.List.Sums.{prefix_len-drop_yes, prefix_len-drop_no, prefix_len-drop_all}
 use Rattle.trial.proofs.request.digits.Goals as goal
 
-pub returns-then-not-is-ascii-digit : goal.returns-then-not-is-ascii-digit
-returns-then-not-is-ascii-digit c =
-    let e = prefix_len-drop_no is_ascii_digit c.args.s.now c.loop-i.i 0 c.loop-i-test.true (sym c.if-not-is-ascii-digit.ensures.value) in
+pub returns-then-not-is_ascii_digit : goal.returns-then-not-is_ascii_digit
+returns-then-not-is_ascii_digit c =
+    let e = prefix_len-drop_no is_ascii_digit c.args.s.now c.loop-i.i 0 c.loop-i-test.true (sym c.if-not-is_ascii_digit.ensures.value) in
     record { value = omega (arith, c.loop-i.invariant); within = omega arith }
 
 pub loop-i-preserved : goal.loop-i-preserved
 loop-i-preserved c =
-    let e = prefix_len-drop_yes is_ascii_digit c.args.s.now c.loop-i.i 0 c.loop-i-test.true (sym c.if-not-is-ascii-digit.ensures.value) in
+    let e = prefix_len-drop_yes is_ascii_digit c.args.s.now c.loop-i.i 0 c.loop-i-test.true (sym c.if-not-is_ascii_digit.ensures.value) in
     omega (arith, c.loop-i.invariant)
 
 pub returns : goal.returns

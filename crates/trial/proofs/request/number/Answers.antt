@@ -11,11 +11,11 @@ small i h = pow-le-pow_right {n = 10} (lit< tt) {i = i} {j = 4} (omega arith)
 more : (i : ℕ) → 10 ^ (i + 1) ≡ 10 ^ i * 10
 more i = ap (λ k. 10 ^ k) (add-one i) ∙ pow-suc 10 i
 
-pub overflow-mul-n : goal.overflow-mul-n
-overflow-mul-n c = let p = small c.loop-b.b-index (omega arith) in omega (arith, c.loop-b.invariant.1)
+pub overflow_mul-n : goal.overflow_mul-n
+overflow_mul-n c = let p = small c.loop-b.b-index (omega arith) in omega (arith, c.loop-b.invariant.1)
 
-pub overflow-add-n : goal.overflow-add-n
-overflow-add-n c = let p = small c.loop-b.b-index (omega arith) in omega (arith, c.loop-b.invariant.1)
+pub overflow_add-n : goal.overflow_add-n
+overflow_add-n c = let p = small c.loop-b.b-index (omega arith) in omega (arith, c.loop-b.invariant.1)
 
 pub loop-b-preserved : goal.loop-b-preserved
 loop-b-preserved c =

@@ -8,10 +8,10 @@ known : (bs rest after : List ℕ) → length bs ≤ 200 → rest ≡ drop 1 bs 
 known bs rest after h d e =
     ap (λ t. cond t (whole bs) Unknown) (le-leb (length bs) 200 h) ∙ ap (after_letter (get_or bs 0 0)) (ap after_space (sym d) ∙ sym e)
 
-pub returns-in-default-leading-field : goal.returns-in-default-leading-field
-returns-in-default-leading-field c =
-    ap (after_field (get_or c.args.line.now 0 0)) c.in-default-leading-field.ensures ∙ sym (known c.args.line.now _ _ (omega arith) c.split-at.ensures.back c.in-Some.ensures)
+pub returns-in-default-leading_field : goal.returns-in-default-leading_field
+returns-in-default-leading_field c =
+    ap (after_field (get_or c.args.line.now 0 0)) c.in-default-leading_field.ensures ∙ sym (known c.args.line.now _ _ (omega arith) c.split_at.ensures.back c.in-Some.ensures)
 
 pub returns : goal.returns
 returns c =
-    c.by-letter.ensures ∙ ap (after_field (get_or c.args.line.now 0 0)) c.in-Some-leading-field.ensures ∙ sym (known c.args.line.now _ _ (omega arith) c.split-at.ensures.back c.in-Some.ensures)
+    c.by_letter.ensures ∙ ap (after_field (get_or c.args.line.now 0 0)) c.in-Some-leading_field.ensures ∙ sym (known c.args.line.now _ _ (omega arith) c.split_at.ensures.back c.in-Some.ensures)

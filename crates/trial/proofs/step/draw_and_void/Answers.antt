@@ -16,4 +16,4 @@ both s m t k p a draws slip voids o l keeps =
     (v.0 ∙ answers ∙ ap (void_answer s o l k) d.0, subst (Keeps o t) (ledgers ∙ ap (void_after s o l k) d.0) v.1)
 
 pub returns : goal.returns
-returns c = both _ _ _ c.args.station _ c.void.result c.in-ok-slip.ensures.steps c.in-ok-slip.ensures.slip c.void.ensures
+returns c = both _ _ _ c.args.station _ c.void.result c.in_ok-slip.ensures.steps c.in_ok-slip.ensures.slip c.void.ensures

@@ -6,34 +6,34 @@ use Rattle.counter.proofs.Calls.{step_sound, kept_after, one_more, give_safe, gi
 use Rattle.counter.proofs.tables.Tables.give_back.Goals as goal
 
 pub overflow-cast-k : goal.overflow-cast-k
-overflow-cast-k c = omega (arith, give_safe (view c.args.self.now) c.requires c.args.station c.args.count c.in-ok-judge-give-back.ensures)
+overflow-cast-k c = omega (arith, give_safe (view c.args.self.now) c.requires c.args.station c.args.count c.in_ok-judge_give_back.ensures)
 
 pub shift-requires : goal.shift-requires
 shift-requires c =
-    let f = give_safe (view c.args.self.now) c.requires c.args.station c.args.count c.in-ok-judge-give-back.ensures in
+    let f = give_safe (view c.args.self.now) c.requires c.args.station c.args.count c.in_ok-judge_give_back.ensures in
     record { apart = omega arith; from = omega arith; to = omega arith; some = omega arith; kept = kept_after (view c.args.self.now) _ (move c.args.station 0) c.loop-i.i c.requires c.loop-i.invariant.3 }
 
 pub loop-i-preserved : goal.loop-i-preserved
 loop-i-preserved c = (c.shift.ensures.stations ∙ c.loop-i.invariant.0, c.shift.ensures.taken ∙ c.loop-i.invariant.1, omega arith, λ o l m. one_more o _ (move c.args.station 0) l c.loop-i.i (c.shift.ensures.moves o _ (c.loop-i.invariant.3 o l m)))
 
 pub overflow-cast-self : goal.overflow-cast-self
-overflow-cast-self c = omega (arith, give_safe (view c.args.self.now) c.requires c.args.station c.args.count c.in-ok-judge-give-back.ensures)
+overflow-cast-self c = omega (arith, give_safe (view c.args.self.now) c.requires c.args.station c.args.count c.in_ok-judge_give_back.ensures)
 
 pub bounds-self-station : goal.bounds-self-station
-bounds-self-station c = omega (arith, give_safe (view c.args.self.now) c.requires c.args.station c.args.count c.in-ok-judge-give-back.ensures)
+bounds-self-station c = omega (arith, give_safe (view c.args.self.now) c.requires c.args.station c.args.count c.in_ok-judge_give_back.ensures)
 
-pub overflow-sub-self : goal.overflow-sub-self
-overflow-sub-self c =
+pub overflow_sub-self : goal.overflow_sub-self
+overflow_sub-self c =
     let same = ap (λ (ts : List ℕ). get_or ts c.args.station 0) c.loop-i.invariant.1 in
-    omega (arith, give_safe (view c.args.self.now) c.requires c.args.station c.args.count c.in-ok-judge-give-back.ensures)
+    omega (arith, give_safe (view c.args.self.now) c.requires c.args.station c.args.count c.in_ok-judge_give_back.ensures)
 
 pub bounds-self-station-2 : goal.bounds-self-station-2
-bounds-self-station-2 c = omega (arith, give_safe (view c.args.self.now) c.requires c.args.station c.args.count c.in-ok-judge-give-back.ensures)
+bounds-self-station-2 c = omega (arith, give_safe (view c.args.self.now) c.requires c.args.station c.args.count c.in_ok-judge_give_back.ensures)
 
 pub returns : goal.returns
 returns c =
     let s = view c.args.self.now in
     let k = c.args.station in
     let n = c.args.count in
-    let d = give_steps s k n (view c.loop-i.self) c.loop-i.i c.loop-i-test.false c.loop-i.auto.i-end c.loop-i.invariant.1 c.in-ok-judge-give-back.ensures c.loop-i.invariant.3 in
+    let d = give_steps s k n (view c.loop-i.self) c.loop-i.i c.loop-i-test.false c.loop-i.auto.i-end c.loop-i.invariant.1 c.in_ok-judge_give_back.ensures c.loop-i.invariant.3 in
     record { steps = d; sound = step_sound s (GiveBack k n) _ _ c.requires d }

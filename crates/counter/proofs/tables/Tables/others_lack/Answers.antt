@@ -24,7 +24,7 @@ loop-i-preserved c =
       | then-i-station w ↦ w.own-is ∙ sym (ap F w.if-i-station.true ∙ put_same (lacking_shown s) k 0)
       | else-i-station w ↦ own_lack s k i _ (w.own-is ∙ c.lacks-lacks.ensures) w.if-i-station.false
     ] in
-    let small : c.if-i-station.own_val < 65536 = elim c.if-i-station.branch [ then-i-station w ↦ omega (arith, w.own-is) | else-i-station w ↦ omega (arith, w.own-is, c.lacks-lacks.type-inv) ] in
+    let small : c.if-i-station.own_val < 65536 = elim c.if-i-station.branch [ then-i-station w ↦ omega (arith, w.own-is) | else-i-station w ↦ omega (arith, w.own-is, c.lacks-lacks.type_inv) ] in
     (total_more F i c.loop-i.sum c.if-i-station.own_val c.loop-i.invariant.0 own, omega (arith, c.loop-i.invariant.1))
 
 pub returns : goal.returns

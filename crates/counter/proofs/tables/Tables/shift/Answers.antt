@@ -47,8 +47,8 @@ returns-in-Some c =
     let b = c.args.to in
     let h = heads s c.requires.kept a b c.requires.apart c.requires.from c.requires.to c.requires.some in
     let e = popped_pair (length s.cells) (get_or s.rows a no_row).head c.in-Some.code c.in-Some.rest _ h.0 h.1 c.in-Some.ensures.first in
-    let same = took s a b c.in-Some.code c.in-Some.rest c.push-front-head.result c.row-status-status.result c.pop-front.new.cells c.push-front-head.new.cells (view c.mark.new.self) (view c.leave.new.self) (view c.join.new.self) c.requires.apart
-    h.0 h.1 e.0 e.1 c.in-Some.ensures.links c.push-front-head.ensures.links c.push-front-head.ensures.head c.row-status-status.ensures c.mark.ensures c.leave.ensures c.join.ensures in
+    let same = took s a b c.in-Some.code c.in-Some.rest c.push_front-head.result c.row_status-status.result c.pop_front.new.cells c.push_front-head.new.cells (view c.mark.new.self) (view c.leave.new.self) (view c.join.new.self) c.requires.apart
+    h.0 h.1 e.0 e.1 c.in-Some.ensures.links c.push_front-head.ensures.links c.push_front-head.ensures.head c.row_status-status.ensures c.mark.ensures c.leave.ensures c.join.ensures in
     record {
       moves = λ o l m. subst (λ u. Matches o u (move a b l)) (sym same) (shift_matches o s l a b c.requires.apart c.requires.from c.requires.to c.requires.some m);
       fewer = ap (λ (u : State). (get_or u.rows a no_row).count + 1) same ∙ shifted_fewer s a b c.requires.apart (omega (arith, nine_rows s c.requires.kept, few s c.requires.kept, c.requires.from)) c.requires.some;
