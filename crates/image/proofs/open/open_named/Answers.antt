@@ -37,7 +37,7 @@ returns-in_err-parts g c =
     looked_at _ kind _ I c.look.result (c.new.ensures.kind ∙ c.from.ensures ∙ c.kind.ensures) c.new.ensures.bytes c.look.ensures.parts in
     let refuses : look_verdict kind I ≡ Err e = shown_err (look_verdict kind I) (shown_in I) c.look.result e c.in_err-parts.was at in
     let ends = look_refuses kind g.C.Compression.block g.C.Compression.shortest g.C.Compression.longest g.C.Compression.meaning c.args.key.now I c.args.place.now (sym c.key_tested.ensures ∙ c.in_ok-key_tested.was) e refuses in
-    let is : c.from-residual-in_err-parts.result ≡ Err e = search rules in
+    let is : c.from_residual-in_err-parts.result ≡ Err e = search rules in
     record { answer = is ∙ ends.answer; place = ends.place_is }
 
 pub returns-then-place-parts : goal.returns-then-place-parts

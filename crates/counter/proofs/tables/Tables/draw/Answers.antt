@@ -10,8 +10,8 @@ use Rattle.counter.proofs.Moves.{next_number, drawn_out, popped_pair, popped_non
 use Rattle.counter.proofs.Calls.{step_sound, draw_safe, draw_steps}
 use Rattle.counter.proofs.tables.Tables.draw.Goals as goal
 
-pub overflow-cast-k : goal.overflow-cast-k
-overflow-cast-k c = omega (arith, draw_safe (view c.args.self.now) c.requires c.args.station c.in_ok-judge_draw.ensures)
+pub overflow_cast-k : goal.overflow_cast-k
+overflow_cast-k c = omega (arith, draw_safe (view c.args.self.now) c.requires c.args.station c.in_ok-judge_draw.ensures)
 
 pub bounds-self-station : goal.bounds-self-station
 bounds-self-station c = omega (arith, draw_safe (view c.args.self.now) c.requires c.args.station c.in_ok-judge_draw.ensures)

@@ -5,8 +5,8 @@ use Rattle.counter.specs.Shown.{view}
 use Rattle.counter.proofs.Calls.{step_sound, kept_after, one_more, give_safe, give_steps}
 use Rattle.counter.proofs.tables.Tables.give_back.Goals as goal
 
-pub overflow-cast-k : goal.overflow-cast-k
-overflow-cast-k c = omega (arith, give_safe (view c.args.self.now) c.requires c.args.station c.args.count c.in_ok-judge_give_back.ensures)
+pub overflow_cast-k : goal.overflow_cast-k
+overflow_cast-k c = omega (arith, give_safe (view c.args.self.now) c.requires c.args.station c.args.count c.in_ok-judge_give_back.ensures)
 
 pub shift-requires : goal.shift-requires
 shift-requires c =
@@ -16,8 +16,8 @@ shift-requires c =
 pub loop-i-preserved : goal.loop-i-preserved
 loop-i-preserved c = (c.shift.ensures.stations ∙ c.loop-i.invariant.0, c.shift.ensures.taken ∙ c.loop-i.invariant.1, omega arith, λ o l m. one_more o _ (move c.args.station 0) l c.loop-i.i (c.shift.ensures.moves o _ (c.loop-i.invariant.3 o l m)))
 
-pub overflow-cast-self : goal.overflow-cast-self
-overflow-cast-self c = omega (arith, give_safe (view c.args.self.now) c.requires c.args.station c.args.count c.in_ok-judge_give_back.ensures)
+pub overflow_cast-self : goal.overflow_cast-self
+overflow_cast-self c = omega (arith, give_safe (view c.args.self.now) c.requires c.args.station c.args.count c.in_ok-judge_give_back.ensures)
 
 pub bounds-self-station : goal.bounds-self-station
 bounds-self-station c = omega (arith, give_safe (view c.args.self.now) c.requires c.args.station c.args.count c.in_ok-judge_give_back.ensures)

@@ -20,12 +20,12 @@ loop-i-preserved c =
     let k = c.args.station in
     let i = c.loop-i.i in
     let F : ℕ → ℕ = put (lacking_shown s) k 0 in
-    let own : c.if-i-station.own_val ≡ F (i + 1) = elim c.if-i-station.branch [
+    let own : c.if-i-station.own ≡ F (i + 1) = elim c.if-i-station.branch [
       | then-i-station w ↦ w.own-is ∙ sym (ap F w.if-i-station.true ∙ put_same (lacking_shown s) k 0)
       | else-i-station w ↦ own_lack s k i _ (w.own-is ∙ c.lacks-lacks.ensures) w.if-i-station.false
     ] in
-    let small : c.if-i-station.own_val < 65536 = elim c.if-i-station.branch [ then-i-station w ↦ omega (arith, w.own-is) | else-i-station w ↦ omega (arith, w.own-is, c.lacks-lacks.type_inv) ] in
-    (total_more F i c.loop-i.sum c.if-i-station.own_val c.loop-i.invariant.0 own, omega (arith, c.loop-i.invariant.1))
+    let small : c.if-i-station.own < 65536 = elim c.if-i-station.branch [ then-i-station w ↦ omega (arith, w.own-is) | else-i-station w ↦ omega (arith, w.own-is, c.lacks-lacks.type_inv) ] in
+    (total_more F i c.loop-i.sum c.if-i-station.own c.loop-i.invariant.0 own, omega (arith, c.loop-i.invariant.1))
 
 pub returns : goal.returns
 returns c =

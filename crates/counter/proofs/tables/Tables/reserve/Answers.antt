@@ -5,8 +5,8 @@ use Rattle.counter.specs.Shown.{view}
 use Rattle.counter.proofs.Calls.{step_sound, kept_after, one_more, reserve_safe, reserve_steps}
 use Rattle.counter.proofs.tables.Tables.reserve.Goals as goal
 
-pub overflow-cast-k : goal.overflow-cast-k
-overflow-cast-k c = omega (arith, reserve_safe (view c.args.self.now) c.requires c.args.station c.args.count c.in_ok-judge_reserve.ensures)
+pub overflow_cast-k : goal.overflow_cast-k
+overflow_cast-k c = omega (arith, reserve_safe (view c.args.self.now) c.requires c.args.station c.args.count c.in_ok-judge_reserve.ensures)
 
 pub shift-requires : goal.shift-requires
 shift-requires c =
@@ -16,8 +16,8 @@ shift-requires c =
 pub loop-i-preserved : goal.loop-i-preserved
 loop-i-preserved c = (c.shift.ensures.stations ∙ c.loop-i.invariant.0, c.shift.ensures.taken ∙ c.loop-i.invariant.1, omega arith, λ o l m. one_more o _ (move 0 c.args.station) l c.loop-i.i (c.shift.ensures.moves o _ (c.loop-i.invariant.3 o l m)))
 
-pub overflow-cast-self : goal.overflow-cast-self
-overflow-cast-self c = omega (arith, reserve_safe (view c.args.self.now) c.requires c.args.station c.args.count c.in_ok-judge_reserve.ensures)
+pub overflow_cast-self : goal.overflow_cast-self
+overflow_cast-self c = omega (arith, reserve_safe (view c.args.self.now) c.requires c.args.station c.args.count c.in_ok-judge_reserve.ensures)
 
 pub bounds-self-station : goal.bounds-self-station
 bounds-self-station c = omega (arith, reserve_safe (view c.args.self.now) c.requires c.args.station c.args.count c.in_ok-judge_reserve.ensures)
