@@ -2,7 +2,7 @@
 #![tactic(auto)]
 
 ghost use Rattle.std.specs.Prelude.{◌≡◌, length};
-ghost use Rattle.refusal.specs.Verdict.{code, answer_code, answered, left_after, at_front};
+ghost use Rattle.refusal.specs.Verdict.{code, left, answer_code, answered, left_after, at_front};
 ghost use Rattle.compression.specs.Compress.{compress_verdict};
 ghost use Rattle.compression.specs.Keyed.{sha256, blake2b};
 ghost use Rattle.sealing.specs.Omd.{sealed, deciphered, opened};

@@ -12,7 +12,7 @@ fn nibble(digit: u8) -> Option<u8> {
 // The bytes that a field stands for, or None where it is no byte string.
 pub(crate) fn decode(heap: Global, field: &[u8]) -> Result<Option<Vec<u8>>, AllocError> {
     let mut bytes = Vec::new(heap);
-    if field == b"-" {
+    if field == b"-".as_slice() {
         return Ok(Some(bytes));
     }
     for pair in field.chunks(2) {

@@ -8,9 +8,9 @@ known : (bs rest after : List ℕ) → length bs ≤ 200 → rest ≡ drop 1 bs 
 known bs rest after h d e =
     ap (λ t. cond t (whole bs) Unknown) (le-leb (length bs) 200 h) ∙ ap (after_letter (get_or bs 0 0)) (ap after_space (sym d) ∙ sym e)
 
-pub returns-in-default-leading_field : goal.returns-in-default-leading_field
-returns-in-default-leading_field c =
-    ap (after_field (get_or c.args.line.now 0 0)) c.in-default-leading_field.ensures ∙ sym (known c.args.line.now _ _ (omega arith) c.split_at.ensures.back c.in-Some.ensures)
+pub returns-in_default-leading_field : goal.returns-in_default-leading_field
+returns-in_default-leading_field c =
+    ap (after_field (get_or c.args.line.now 0 0)) c.in_default-leading_field.ensures ∙ sym (known c.args.line.now _ _ (omega arith) c.split_at.ensures.back c.in-Some.ensures)
 
 pub returns : goal.returns
 returns c =
