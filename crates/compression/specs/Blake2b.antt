@@ -1,6 +1,6 @@
 -- Function F of BLAKE2b, as RFC 7693 (The BLAKE2 Cryptographic Hash and MAC) defines it. Assumes nothing.
 -- The sections named are those of RFC 7693.
-use Rattle.std.specs.Prelude.{ℕ, zero, suc, ◌+◌, ◌-◌, ◌/◌, ◌%◌, ◌^◌, Bool, cond, List, [], ◌∷◌, ◌++◌, map, get_or, set, bit_xor, slice_index, slice_index_or, slice_set}
+use Rattle.std.specs.Prelude.{ℕ, zero, suc, ◌+◌, ◌-◌, ◌/◌, ◌%◌, ◌^◌, Bool, cond, List, [], ◌∷◌, ◌++◌, map, get_or, bit_xor, slice_index, slice_index_or, slice_set}
 use Rattle.std.specs.List.{range_with_len, flat_map}
 use Rattle.compression.specs.Words.{from_le, to_le, words, plus, rotate}
 

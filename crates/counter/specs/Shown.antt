@@ -1,5 +1,5 @@
 -- What the tables of a block show for a ledger. Assumes nothing.
-use Rattle.std.specs.Prelude.{◌≡◌, ℕ, ◌-◌, ◌≤◌, Bool, cond, ◌&&◌, List, [], ◌∷◌, length, ◌==◌, slice_index, slice_index_or}
+use Rattle.std.specs.Prelude.{◌≡◌, ℕ, ◌≤◌, Bool, cond, ◌&&◌, List, [], ◌∷◌, length, ◌==◌, slice_index, slice_index_or}
 use Rattle.chain.specs.Chain.{Absent, first, follower}
 use Rattle.counter.specs.declared.tables.Row.{Row}
 use Rattle.counter.specs.declared.tables.Tables.{Tables}

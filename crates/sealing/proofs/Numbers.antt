@@ -1,5 +1,5 @@
 -- A number in more bytes than it needs. Assumes nothing.
-use Rattle.std.proofs.Common.{◌≡◌, ℕ, zero, suc, ◌+◌, ◌-◌, ◌/◌, ◌%◌, ◌^◌, ◌<◌, ◌≤◌, List, [], ◌∷◌, ◌++◌, length, take, drop, replicate, sym, refl, ap, ◌∙◌, ap₂, lt_of_lt_of_le, suc-add, zero-add, le-add_left, arith, length-drop}
+use Rattle.std.proofs.Common.{◌≡◌, ℕ, zero, suc, ◌+◌, ◌-◌, ◌%◌, ◌^◌, ◌<◌, ◌≤◌, List, [], ◌∷◌, ◌++◌, length, take, drop, sym, ap, ◌∙◌, ap₂, lt_of_lt_of_le, suc-add, zero-add, le-add_left, arith, length-drop}
 use native.Mathlib.Nat.{pow-le-pow_right, div-eq_of_lt}
 use borrow.Rule.Slice.PartMut.{put_mid, post_of}
 use lib.ListN.{length-replicate}

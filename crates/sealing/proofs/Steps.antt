@@ -1,5 +1,5 @@
 -- One block more, as a loop writes it. Assumes nothing.
-use Rattle.std.proofs.Common.{◌≡◌, ℕ, suc, ◌+◌, ◌-◌, ◌*◌, ◌/◌, ◌<◌, ◌≤◌, List, [], ◌++◌, length, take, drop, sym, refl, ap, ◌∙◌, ap₂, le_trans, mul-le-mul_right, suc-mul, div-lt_iff_lt-mul, add-mul, mul-le-mul_left, div-mul-le_self, arith, length-append, length-drop}
+use Rattle.std.proofs.Common.{◌≡◌, ℕ, ◌+◌, ◌-◌, ◌*◌, ◌/◌, ◌<◌, ◌≤◌, List, [], ◌++◌, length, take, drop, sym, ap, ◌∙◌, ap₂, le_trans, mul-le-mul_right, suc-mul, div-lt_iff_lt-mul, add-mul, mul-le-mul_left, div-mul-le_self, arith, length-append, length-drop}
 use borrow.Rule.Slice.PartMut.{put_mid}
 use Rattle.std.proofs.lemmas.List.{append_assoc, append-nil, take_at, take_all, take_rest, drop_at, drop_all, drop-drop}
 use Rattle.sealing.specs.Strings.{last_block, block, chained}

@@ -1,7 +1,7 @@
 -- OMD, the mode of operation of "OMD: A Compression Function Mode of Operation for Authenticated Encryption" (Cogliani,
 -- Maimuț, Naccache, Portella do Canto, Reyhanitabar, Vaudenay, Vizár; SAC 2014), as the pseudocode in the appendix of
 -- "Speeding Up OMD Instantiations in Hardware" (Maimuț, Mega) has it. Names are theirs. Assumes nothing.
-use Rattle.std.specs.Prelude.{ℕ, zero, suc, ◌+◌, ◌-◌, ◌*◌, cond, List, length, take, drop, Some, None, Option, ◌==◌}
+use Rattle.std.specs.Prelude.{ℕ, zero, suc, ◌+◌, ◌*◌, cond, List, length, take, drop, Some, None, Option, ◌==◌}
 use Rattle.std.specs.Int.Count.{count_trailing_zeros}
 use Rattle.std.specs.Str.{bytes_eq}
 use Rattle.compression.specs.Words.{to_be}

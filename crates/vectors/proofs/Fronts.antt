@@ -1,5 +1,5 @@
 -- A block at the front of a place. Assumes nothing.
-use Rattle.std.proofs.Common.{◌≡◌, ℕ, ◌-◌, not, ◌&&◌, ◌||◌, eqb, ltb, List, [], ◌∷◌, ◌++◌, length, take, replicate, Ok, sym, ap, ◌∙◌}
+use Rattle.std.proofs.Common.{◌≡◌, ℕ, not, ◌&&◌, ◌||◌, eqb, ltb, List, [], ◌∷◌, ◌++◌, length, take, replicate, Ok, sym, ap, ◌∙◌}
 use lib.ListN.{length-replicate}
 use Rattle.std.proofs.lemmas.List.{take_at}
 use Rattle.refusal.specs.declared.Refusal.TheVariants.{KeyLength, PlaceLength}

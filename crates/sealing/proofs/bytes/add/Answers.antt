@@ -1,4 +1,4 @@
-use Rattle.std.proofs.Common.{◌≡◌, ℕ, ◌<◌, ◌≢◌, length, get_or, ap, arith, get_or-set_other, get_or-set_same, below_more}
+use Rattle.std.proofs.Common.{ℕ, ◌<◌, ◌≢◌, length, get_or, ap, arith, get_or-set_other, get_or-set_same, below_more}
 use lib.Bits.{bit_xor}
 use Rattle.sealing.proofs.Sums.{sum_is}
 use Rattle.sealing.proofs.bytes.add.Goals as goal

@@ -1,4 +1,4 @@
-use Rattle.std.proofs.Common.{◌≡◌, arith}
+use Rattle.std.proofs.Common.{arith}
 use Rattle.sealing.proofs.Sums.{sum_is}
 use Rattle.sealing.proofs.bytes.sum.Goals as goal
 

@@ -1,4 +1,4 @@
-use Rattle.std.proofs.Common.{◌≡◌, ℕ, ◌≤◌, arith, length-take, rules}
+use Rattle.std.proofs.Common.{arith, length-take}
 use Rattle.sealing.proofs.Buffers.{fits}
 use Rattle.sealing.proofs.Fitting.{fitting}
 use Rattle.sealing.proofs.calls.seal_tested.Goals as goal

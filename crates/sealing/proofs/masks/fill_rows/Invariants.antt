@@ -1,5 +1,4 @@
-use Rattle.std.proofs.Common.{◌≡◌, ℕ, zero, suc, ◌<◌, ◌⊎◌, List, [], length, get_or, take}
-use Rattle.sealing.specs.Double.{double}
+use Rattle.std.proofs.Common.{◌≡◌, ℕ, zero, suc, ◌<◌, List, [], length, get_or, take}
 use Rattle.sealing.specs.Parts.{doublings}
 use Rattle.sealing.proofs.masks.fill_rows.Given as goal
 

@@ -1,7 +1,7 @@
-use Rattle.std.proofs.Common.{◌≡◌, ℕ, ◌-◌, ◌<◌, ◌≤◌, List, [], length, get_or, take, sym, ap, ◌∙◌, ap₂, lt_of_le_of_lt, arith, rules}
+use Rattle.std.proofs.Common.{◌≡◌, ℕ, List, [], length, get_or, take, sym, ap, ◌∙◌, ap₂, lt_of_le_of_lt, rules}
 use Rattle.std.proofs.lemmas.List.{take_at, places}
 use Rattle.sealing.specs.Double.{double}
-use Rattle.sealing.specs.Omd.{L⋆, L, ntz}
+use Rattle.sealing.specs.Omd.{L⋆, ntz}
 use Rattle.sealing.specs.Parts.{doublings}
 use Rattle.sealing.proofs.BlockNumbers.{few_zeros}
 use Rattle.sealing.proofs.Buffers.{fits, front, zeros_front}

@@ -1,7 +1,7 @@
-use Rattle.std.proofs.Common.{◌≡◌, ℕ, ◌-◌, List, length, take, drop, ap, ◌∙◌, ap₂, arith, rules}
+use Rattle.std.proofs.Common.{◌≡◌, ℕ, ◌-◌, List, length, take, drop, ap, ◌∙◌, ap₂, rules}
 use Rattle.std.proofs.lemmas.List.{take_at, places}
 use Rattle.sealing.specs.Strings.{◌⊕◌}
-use Rattle.sealing.proofs.Buffers.{fits, front}
+use Rattle.sealing.proofs.Buffers.{fits}
 use Rattle.sealing.proofs.omd.absorb.Goals as goal
 
 pub slice_bounds-value-end-2 : goal.slice_bounds-value-end-2

@@ -1,4 +1,4 @@
-use Rattle.std.proofs.Common.{◌≡◌, ℕ, ◌+◌, ◌-◌, ◌*◌, ◌/◌, ◌<◌, ◌≤◌, cond, List, [], length, get_or, take, drop, sym, ap, ◌∙◌, subst, ap₂, arith, length-drop, length-take, rules}
+use Rattle.std.proofs.Common.{◌≡◌, ℕ, ◌+◌, ◌*◌, ◌/◌, ◌<◌, List, [], length, get_or, take, sym, ap, ◌∙◌, subst, ap₂, arith, length-drop, length-take, rules}
 use lib.ListN.{length-replicate}
 use Rattle.std.proofs.lemmas.List.{places}
 use Rattle.sealing.specs.Strings.{◌⊕◌, zeros, block, summed}

@@ -1,7 +1,7 @@
-use Rattle.std.proofs.Common.{◌≡◌, ℕ, ◌+◌, ◌-◌, ◌*◌, ◌/◌, ◌<◌, ◌≤◌, List, [], length, get_or, take, drop, sym, refl, ap, ◌∙◌, subst, ap₂, zero-mul, add-one, arith, rules}
+use Rattle.std.proofs.Common.{◌≡◌, ℕ, ◌+◌, ◌-◌, ◌*◌, ◌/◌, ◌<◌, ◌≤◌, List, [], length, get_or, take, drop, sym, ap, ◌∙◌, subst, ap₂, zero-mul, add-one, arith, rules}
 use Rattle.std.proofs.lemmas.List.{places}
 use Rattle.compression.specs.Words.{to_be}
-use Rattle.sealing.specs.Strings.{◌⊕◌, chained, block, last_block}
+use Rattle.sealing.specs.Strings.{◌⊕◌, chained, block}
 use Rattle.sealing.specs.Omd.{ntz, plain, Δ, Δ₀, chaining_at, crossed}
 use Rattle.sealing.proofs.Rows.{Δ_more}
 use Rattle.sealing.proofs.Steps.{whole_block, part_block, put_next}

@@ -1,9 +1,8 @@
-use Rattle.std.proofs.Common.{◌≡◌, ℕ, ◌+◌, ◌-◌, ◌*◌, ◌/◌, ◌≤◌, List, ◌++◌, length, take, drop, sym, ap, ◌∙◌, ap₂, arith, rules}
-use borrow.Rule.Slice.PartMut.{put_mid}
+use Rattle.std.proofs.Common.{◌≡◌, ℕ, ◌+◌, ◌-◌, ◌*◌, ◌/◌, List, length, take, drop, ap, ◌∙◌, ap₂, arith, rules}
 use Rattle.std.proofs.lemmas.List.{take_at, places}
-use Rattle.sealing.specs.Strings.{◌⊕◌, last_block, block, chained}
+use Rattle.sealing.specs.Strings.{◌⊕◌, last_block, block}
 use Rattle.sealing.specs.Omd.{plain, ended, chaining_at, crossed, other_text, Δ, Δ₀}
-use Rattle.sealing.proofs.Buffers.{fits, front}
+use Rattle.sealing.proofs.Buffers.{fits}
 use Rattle.sealing.proofs.Steps.{last_part, put_last}
 use Rattle.sealing.proofs.omd.cross_text.Goals as goal
 

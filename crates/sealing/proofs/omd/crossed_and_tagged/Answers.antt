@@ -1,7 +1,7 @@
-use Rattle.std.proofs.Common.{◌≡◌, ℕ, ◌+◌, ◌-◌, ◌*◌, ◌/◌, ◌<◌, ◌≤◌, max, List, length, take, drop, sym, ap, ◌∙◌, ap₂, arith, rules}
+use Rattle.std.proofs.Common.{◌≡◌, ℕ, ◌-◌, ◌*◌, ◌/◌, ◌≤◌, List, length, take, ap, ◌∙◌, ap₂, arith, rules}
 use Rattle.std.proofs.lemmas.List.{take_at, take-append-le, places}
-use Rattle.sealing.specs.Strings.{◌⊕◌, zeros, last_block, block_count}
-use Rattle.sealing.specs.Omd.{HASH, ended_at, Tag}
+use Rattle.sealing.specs.Strings.{◌⊕◌}
+use Rattle.sealing.specs.Omd.{Tag}
 use Rattle.sealing.proofs.Buffers.{fits, zeros_front}
 use Rattle.sealing.proofs.Rows.{fewer}
 use Rattle.sealing.proofs.omd.crossed_and_tagged.Goals as goal

@@ -1,4 +1,4 @@
-use Rattle.std.proofs.Common.{◌≡◌, ℕ, ◌-◌, List, length, ap, ◌∙◌, arith, rules}
+use Rattle.std.proofs.Common.{◌≡◌, ℕ, ◌-◌, List, length, ap, ◌∙◌, rules}
 use Rattle.std.proofs.lemmas.List.{take_at, places}
 use Rattle.sealing.proofs.Buffers.{fits}
 use Rattle.sealing.proofs.omd.fold.Goals as goal

@@ -1,7 +1,7 @@
 use Rattle.std.proofs.Common.{◌≡◌, ℕ, ◌+◌, ◌-◌, ◌*◌, ◌/◌, ◌%◌, ◌<◌, List, length, take, drop, sym, ap, ◌∙◌, subst, ap₂, arith, rules}
 use Rattle.std.proofs.lemmas.List.{take_at, places}
-use Rattle.sealing.specs.Strings.{◌⊕◌, zeros, padded, block, summed}
-use Rattle.sealing.specs.Omd.{L⋆, Δ, halves, absorbed, HASH}
+use Rattle.sealing.specs.Strings.{◌⊕◌, padded, block, summed}
+use Rattle.sealing.specs.Omd.{L⋆, halves, absorbed, HASH}
 use Rattle.sealing.proofs.Absorbing.{summed_more, absorbed_short, whole_count, short_last, short_part, short_block}
 use Rattle.sealing.proofs.Buffers.{fits}
 use Rattle.sealing.proofs.omd.hash.Goals as goal

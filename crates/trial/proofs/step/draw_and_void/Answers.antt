@@ -1,7 +1,7 @@
 use Rattle.std.proofs.Common.{◌≡◌, ℕ, Ok, ap, ◌∙◌, subst}
 use Rattle.counter.specs.declared.slip.Slip.{Slip}
 use Rattle.counter.specs.Ledger.{Answer, Draw, VoidSlip, answer, after}
-use Rattle.counter.specs.Shown.{State, Keeps, view}
+use Rattle.counter.specs.Shown.{State, Keeps}
 use Rattle.counter.specs.History.{Step, numbers, slip_of}
 use Rattle.trial.specs.Answer.{DrawAndVoid, void_answer, void_after}
 use Rattle.trial.proofs.step.draw_and_void.Goals as goal
