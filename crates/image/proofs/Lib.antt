@@ -4,5 +4,4 @@ pub mod Exact
 pub mod Fields
 pub mod Fitting
 pub mod Opened
-pub mod Short
 pub mod Written

@@ -2,5 +2,4 @@ pub mod Image
 pub mod Look
 pub mod Open
 pub mod Laws
-pub mod Host
 pub mod Inner

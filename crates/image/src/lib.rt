@@ -2,14 +2,12 @@
 #![tactic(auto)]
 
 mod build;
-mod host;
 mod label;
 mod layout;
 mod open;
 mod reader;
 
 pub use build::build_image;
-pub use host::{HurbezkiOpened, hurbezki_open_image};
 pub use label::Label;
 pub use open::{open_image, open_image_by_kind};
 pub use reader::{ImageReader, Parts};

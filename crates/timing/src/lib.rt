@@ -53,9 +53,8 @@ pub extern "C" fn timing_seal_sha256(
     ensures ciphertext { ciphertext.new ≡ left_after (answered (seal_verdict 32 16 32 key.now nonce.now «data».now message.now tag_len ciphertext.old tag.old) (length message.now)) ciphertext.old (at_front (sealed 32 (sha256 key.now) nonce.now «data».now message.now tag_len).0 ciphertext.old) }
     ensures tag { tag.new ≡ left_after (answered (seal_verdict 32 16 32 key.now nonce.now «data».now message.now tag_len ciphertext.old tag.old) (length message.now)) tag.old (at_front (sealed 32 (sha256 key.now) nonce.now «data».now message.now tag_len).1 tag.old) }
 {
-    refusal::answer_code(sealing::seal::<Sha256>(
-        key, nonce, data, message, tag_len, ciphertext, tag,
-    ))
+    let answer = sealing::seal::<Sha256>(key, nonce, data, message, tag_len, ciphertext, tag);
+    refusal::answer_code(answer)
 }
 
 // Sealing with kind 2, and the number of its refusal, or 0.
@@ -73,9 +72,8 @@ pub extern "C" fn timing_seal_blake2b(
     ensures ciphertext { ciphertext.new ≡ left_after (answered (seal_verdict 64 16 64 key.now nonce.now «data».now message.now tag_len ciphertext.old tag.old) (length message.now)) ciphertext.old (at_front (sealed 64 (blake2b key.now) nonce.now «data».now message.now tag_len).0 ciphertext.old) }
     ensures tag { tag.new ≡ left_after (answered (seal_verdict 64 16 64 key.now nonce.now «data».now message.now tag_len ciphertext.old tag.old) (length message.now)) tag.old (at_front (sealed 64 (blake2b key.now) nonce.now «data».now message.now tag_len).1 tag.old) }
 {
-    refusal::answer_code(sealing::seal::<Blake2b>(
-        key, nonce, data, message, tag_len, ciphertext, tag,
-    ))
+    let answer = sealing::seal::<Blake2b>(key, nonce, data, message, tag_len, ciphertext, tag);
+    refusal::answer_code(answer)
 }
 
 // Opening with kind 1, and the number of its refusal, or 0.

@@ -2,7 +2,7 @@
 use Rattle.std.specs.Prelude.{ℕ, Ok, Err, Result}
 use Rattle.refusal.specs.declared.Refusal.{Refusal}
 use Rattle.refusal.specs.Number.{number}
-use Rattle.image.specs.declared.host.HurbezkiOpened.{HurbezkiOpened}
+use Rattle.image_c.specs.declared.HurbezkiOpened.{HurbezkiOpened}
 
 -- An answer by numbers: 0 and the length, or the number of the refusal and 0.
 abbrev pub by_numbers : Result ℕ Refusal → HurbezkiOpened

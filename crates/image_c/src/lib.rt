@@ -1,9 +1,11 @@
 // The function that programs in other languages call.
+#![tactic(auto)]
+
 ghost use Rattle.std.specs.Prelude.{◌≡◌, ℕ, ◌≤◌, Ok};
 ghost use Rattle.image.specs.Open.{answer_by_kind, place_by_kind};
-ghost use Rattle.image.specs.Host.{by_numbers};
+ghost use Rattle.image_c.specs.Host.{by_numbers};
 
-use crate::open::open_image_by_kind;
+use image::open_image_by_kind;
 
 // What opening answers, by numbers: 0 and the length of the message, or the number of the refusal and 0.
 #[repr(C)]
