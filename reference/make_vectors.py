@@ -6,10 +6,6 @@ import re
 import sys
 
 from compressions import BLAKE2B_IV, SHA256_IV, blake2b_f, compress, to_bytes, to_words
-from image_check import check_images
-from image_lines import image_lines
-from omd_check import check_omd
-from omd_lines import omd_lines
 from vectors import answer, read_bytes, split_lines, write_bytes
 
 TWO_BLOCKS = b"abcdbcdecdefdefgefghfghighijhijkijkljklmklmnlmnomnopnopq"
@@ -45,10 +41,6 @@ BAD = [
     b"compression 1 G G G", b"sha256 1 G G G",
 ]
 
-# The lines that are answered with more, N being a number and B a byte string.
-GRAMMAR = (rb"(sha256|blake2b) B|compress N B B B|double ([0-9a-f]{64}){1,2}|seal N B B B B N|open N B B B B B B"
-           rb"|look N B|image N B B B")
-
 
 def compress_line(rng, kind, key_length, chaining_length, message_length):
     """A line that asks for a compression of random bytes of the lengths given."""
@@ -56,8 +48,8 @@ def compress_line(rng, kind, key_length, chaining_length, message_length):
     return b" ".join([b"compress", kind] + fields)
 
 
-def hash_lines(rng):
-    """The test lines of hashes and compressions, in order."""
+def make_lines(rng):
+    """Every test line, in order."""
     lines = [name + b" " + write_bytes(message) for name, message, _ in PUBLISHED]
     for length in list(range(131)) + [255, 256, 257]:
         message = write_bytes(rng.randbytes(length))
@@ -93,17 +85,11 @@ def hash_lines(rng):
     return lines + rest + [compress_line(rng, b"2", 33, 64, 64)]
 
 
-def make_lines(rng):
-    """Every test line, in order."""
-    hashes = hash_lines(rng)
-    return omd_lines(rng) + image_lines(rng) + hashes
-
-
 def check(lines, answers, rng):
-    """Whether the answers are those of the published digests, of hashlib, of the grammar and of the other checks."""
-    given = dict(zip(lines, answers, strict=True))
-    good = all(given[name + b" " + write_bytes(message)] == name + b" " + digest for name, message, digest in PUBLISHED)
-    grammar = re.compile(GRAMMAR.replace(b"N", rb"[0-9]+").replace(b"B", rb"(-|([0-9a-f]{2})+)"))
+    """Whether the answers are those of the published digests, of hashlib and of the grammar."""
+    good = all(answers[i] == name + b" " + digest for i, (name, _, digest) in enumerate(PUBLISHED))
+    data = rb"(-|([0-9a-f]{2})+)"
+    grammar = re.compile(rb"(sha256|blake2b) %b|compress [0-9]+ %b %b %b" % (data, data, data, data))
     for line, printed in zip(lines, answers, strict=True):
         good = good and (printed != b"?") == (grammar.fullmatch(line) is not None)
         name, _, message = line.partition(b" ")
@@ -123,7 +109,7 @@ def check(lines, answers, rng):
         h = to_words(compress(2, key, iv, message)[1], 8, "little")
         out = to_bytes(blake2b_f(h, b"x" + bytes(127), 129, True), 8, "little")
         good = good and out == hashlib.blake2b(key + bytes(64 - n) + message + b"x").digest()
-    return good and check_omd(lines, answers, rng) and check_images(lines, answers, rng)
+    return good
 
 
 def main():
@@ -133,7 +119,7 @@ def main():
     lines = split_lines(stdin)
     answers = [answer(line) for line in lines]
     if not check(lines, answers, rng):
-        sys.exit("A check of the answers fails: nothing is written.")  # status 1
+        sys.exit("The answers are not those of the standards: nothing is written.")  # status 1
     with open(sys.argv[1], "wb") as file:
         file.write(stdin)
     with open(sys.argv[2], "wb") as file:

@@ -3,7 +3,7 @@ ghost use Rattle.std.specs.Prelude.{◌≡◌};
 ghost use Rattle.vectors.specs.Numbers.{in_numbers};
 
 use crate::compress::compressed;
-use crate::hex::push_field;
+use crate::hex::{push_field, push_hex};
 use crate::request::{Compress, Image, Look, Open, Request, Seal, parse};
 use crate::seal::{opened, sealed};
 use image::{ImageReader, open_image_by_kind};
@@ -46,16 +46,35 @@ fn in_numbers(answer: Result<usize, Refusal>) -> (u32, usize)
 
 fn answer_compress(heap: Global, request: &Compress) -> Result<String, AllocError> {
     let mut place = [0u8; 64];
-    let (number, n) = in_numbers(compressed(
+    let answer = compressed(
         request.kind,
         request.key.as_slice(),
         request.chaining.as_slice(),
         request.message.as_slice(),
         &mut place,
-    ));
-    let mut text = format!(in heap; "compress {number} ")?;
-    push_field(&mut text, &place[0..n.min(64)])?;
+    );
+    let mut text = String::new(heap);
+    push_compressed(heap, &mut text, answer, &place)?;
     Ok(text)
+}
+
+// The refusal's number and no bytes, or 0 and the bytes that were written to the front of the place.
+fn push_compressed(
+    heap: Global,
+    text: &mut String,
+    answer: Result<usize, Refusal>,
+    place: &[u8; 64],
+) -> Result<(), AllocError> {
+    match answer {
+        Ok(n) => {
+            text.push_str("compress 0 ")?;
+            push_hex(text, &place[0..n.min(64)])
+        }
+        Err(refusal) => {
+            let number = refusal.number();
+            text.push_str(format!(in heap; "compress {number} -")?.as_str())
+        }
+    }
 }
 
 fn answer_double(heap: Global, mut string: Vec<u8>) -> Result<String, AllocError> {

@@ -35,14 +35,18 @@ fn digit(nibble: u8) -> char {
     })
 }
 
-// Adds the field that stands for a byte string.
-pub(crate) fn push_field(text: &mut String, bytes: &[u8]) -> Result<(), AllocError> {
-    if bytes.is_empty() {
-        text.push('-')?;
-    }
+pub(crate) fn push_hex(text: &mut String, bytes: &[u8]) -> Result<(), AllocError> {
     for b in bytes {
         text.push(digit(b >> 4))?;
         text.push(digit(b & 15))?;
     }
     Ok(())
+}
+
+// Adds the field that stands for a byte string.
+pub(crate) fn push_field(text: &mut String, bytes: &[u8]) -> Result<(), AllocError> {
+    if bytes.is_empty() {
+        return text.push('-');
+    }
+    push_hex(text, bytes)
 }
