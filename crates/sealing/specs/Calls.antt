@@ -12,7 +12,7 @@ longest_text = 65535
 
 -- The objections to sealing and to opening in common, in their order. Blocks have b bytes, keys from `shortest` to `longest`,
 -- and the tag has t. The text is the message or the ciphertext; the place for the other one has `room` bytes, and that of the
--- tag `tag-room`.
+-- tag `tag_room`.
 abbrev pub objections : (b shortest longest : ℕ) (key nonce «data» text : List ℕ) (t room tag_room : ℕ) → List (Bool × Refusal)
 objections b shortest longest key nonce «data» text t room tag_room =
     (nat_lt (length key) shortest || nat_lt longest (length key), KeyLength)
