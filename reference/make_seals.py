@@ -16,6 +16,10 @@ GRAMMAR = (rb"(sha256|blake2b) B|compress N B B B|double ([0-9a-f]{64}){1,2}|sea
            rb"|look N B|image N B B B")
 
 
+# The worked example of docs/SEALING.md.
+WORKED = b"seal 1 6c2a9ea491ab781cfd8878adf10458c4 4380ecdb ae9f e25c8d 8"
+
+
 def check(lines, answers, rng):
     """Whether the answers are those of the grammar and of the other checks."""
     grammar = re.compile(GRAMMAR.replace(b"N", rb"[0-9]+").replace(b"B", rb"(-|([0-9a-f]{2})+)"))
@@ -29,7 +33,7 @@ def main():
     rng = random.Random(20140819)
     sealed = omd_lines(rng)
     rng.shuffle(sealed)
-    stdin = b"\n".join(sealed + image_lines(rng))
+    stdin = b"\n".join([WORKED] + sealed + image_lines(rng))
     lines = split_lines(stdin)
     answers = [answer(line) for line in lines]
     if not check(lines, answers, rng):

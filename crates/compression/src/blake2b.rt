@@ -83,8 +83,8 @@ fn mix_half<const P: u32, const Q: u32>(
     d: usize,
     x: u64,
 )
-    requires a_bound { (a < 16) × ((b < 16) × ((c < 16) × (d < 16))) }
-    requires p_nonzero { (0 < P) × ((P < 64) × ((0 < Q) × (Q < 64))) }
+    requires words { (a < 16) × ((b < 16) × ((c < 16) × (d < 16))) }
+    requires turns { (0 < P) × ((P < 64) × ((0 < Q) × (Q < 64))) }
     ensures { v.new ≡ half P Q v.old a b c d x }
 {
     v[a] = v[a].wrapping_add(v[b]).wrapping_add(x);

@@ -91,7 +91,7 @@ module _ (o : Terms) (s : State) (l : Ledger) (t : Tidy o l) (w : Shows o s l) (
       let count : (get_or s.rows a no_row).count - 1 ≡ length xs = omega (arith, ap (λ (r : Row). r.count) (w.rows a known), ap length here) in
       ap (λ h. F h ((get_or s.rows a no_row).count - 1)) (next_first a x xs here p) ∙ ap (F (first xs)) count
 
-  module _ (a b : ℕ) (ne : a ≡ b → ⊥) (in-a : a ≤ o.setting.stations) (in_b : b ≤ o.setting.stations) (x : ℕ) (xs : List ℕ) (here : l.row a ≡ x ∷ xs) (p : Listed l.mark o.codes (row_mark a) (x ∷ xs)) where
+  module _ (a b : ℕ) (ne : a ≡ b → ⊥) (in_a : a ≤ o.setting.stations) (in_b : b ≤ o.setting.stations) (x : ℕ) (xs : List ℕ) (here : l.row a ≡ x ∷ xs) (p : Listed l.mark o.codes (row_mark a) (x ∷ xs)) where
     shifted_cell : ◌≡◌ {A = CodeCell} (record { status = (row_mark b).status; station = b; next = (get_or s.rows b no_row).head }) (cell_of (moved a b l (x ∷ xs)) x)
     shifted_cell =
         let m = moved a b l (x ∷ xs) in
@@ -124,7 +124,7 @@ module _ (o : Terms) (s : State) (l : Ledger) (t : Tidy o l) (w : Shows o s l) (
         ⊎_elim
         (λ (e : j ≡ b). subst (λ i. get_or (set (set s.rows a ra) b rb) i no_row ≡ kept_row m i) (sym e) (get_or-set_same (set s.rows a ra) b rb no_row (simp length-set (omega arith)) ∙ ap F more ∙ sym (ap K at_b)))
         (λ (off_b : j ≡ b → ⊥). get_or-set_other (set s.rows a ra) b j rb no_row off_b ∙ ⊎_elim
-        (λ (e : j ≡ a). subst (λ i. get_or (set s.rows a ra) i no_row ≡ kept_row m i) (sym e) (get_or-set_same s.rows a ra no_row (omega arith) ∙ row_left a in-a x xs here p ∙ sym (ap K at_a)))
+        (λ (e : j ≡ a). subst (λ i. get_or (set s.rows a ra) i no_row ≡ kept_row m i) (sym e) (get_or-set_same s.rows a ra no_row (omega arith) ∙ row_left a in_a x xs here p ∙ sym (ap K at_a)))
         (λ (off_a : j ≡ a → ⊥). get_or-set_other s.rows a j ra no_row off_a ∙ w.rows j known ∙ sym (ap K (put_other (put l.row a xs) b (x ∷ l.row b) j off_b ∙ put_other l.row a xs j off_a)))
         (cases_eq j a))
         (cases_eq j b)
@@ -144,7 +144,7 @@ module _ (o : Terms) (s : State) (l : Ledger) (t : Tidy o l) (w : Shows o s l) (
 
   module _ (k : ℕ) (one : 1 ≤ k) (known : k ≤ o.setting.stations) (x : ℕ) (xs : List ℕ) (here : l.row k ≡ x ∷ xs) (p : Listed l.mark o.codes (row_mark k) (x ∷ xs)) where
     drawn_rows : (j : ℕ) → j ≤ o.setting.stations → get_or (drawn_at s k x).rows j no_row ≡ kept_row (drawn_from k l (x ∷ xs)) j
-    drawn_rows j in-j =
+    drawn_rows j in_j =
         let m = drawn_from k l (x ∷ xs) in
         let K : List ℕ → Row = λ ys. record { head = first ys; count = length ys } in
         let r : Row = record { head = (code_cell s.cells x).next; count = (get_or s.rows k no_row).count - 1 } in
@@ -152,7 +152,7 @@ module _ (o : Terms) (s : State) (l : Ledger) (t : Tidy o l) (w : Shows o s l) (
         let few = t.few in
         ⊎_elim
         (λ (e : j ≡ k). subst (λ i. get_or (set s.rows k r) i no_row ≡ kept_row m i) (sym e) (get_or-set_same s.rows k r no_row (omega arith) ∙ row_left k known x xs here p ∙ sym (ap K (put_same l.row k xs))))
-        (λ (off : j ≡ k → ⊥). get_or-set_other s.rows k j r no_row off ∙ w.rows j in-j ∙ sym (ap K (put_other l.row k xs j off)))
+        (λ (off : j ≡ k → ⊥). get_or-set_other s.rows k j r no_row off ∙ w.rows j in_j ∙ sym (ap K (put_other l.row k xs j off)))
         (cases_eq j k)
 
     drawn_shows : Shows o (drawn_at s k x) (drawn_from k l (x ∷ xs))
@@ -194,13 +194,13 @@ module _ (o : Terms) (s : State) (l : Ledger) (t : Tidy o l) (w : Shows o s l) (
 
   -- The head of a row is its first code.
   shift_at : (a b : ℕ) → (a ≡ b → ⊥) → a ≤ o.setting.stations → b ≤ o.setting.stations → (ys : List ℕ) → l.row a ≡ ys → 1 ≤ length ys → Listed l.mark o.codes (row_mark a) ys → Shows o (shifted_at s a b (first ys)) (moved a b l ys)
-  shift_at a b ne in-a in_b [] here long p = absurd (omega arith)
-  shift_at a b ne in-a in_b (x ∷ xs) here long p = shifted_shows a b ne in-a in_b x xs here p
+  shift_at a b ne in_a in_b [] here long p = absurd (omega arith)
+  shift_at a b ne in_a in_b (x ∷ xs) here long p = shifted_shows a b ne in_a in_b x xs here p
 
   pub shift_shows : (a b : ℕ) → (a ≡ b → ⊥) → a ≤ o.setting.stations → b ≤ o.setting.stations → 1 ≤ length (l.row a) → Shows o (shifted s a b) (move a b l)
-  shift_shows a b ne in-a in_b long =
-      let head : (get_or s.rows a no_row).head ≡ first (l.row a) = ap (λ (r : Row). r.head) (w.rows a in-a) in
-      subst (λ x. Shows o (shifted_at s a b x) (move a b l)) (sym head) (shift_at a b ne in-a in_b (l.row a) refl long (t.listed a))
+  shift_shows a b ne in_a in_b long =
+      let head : (get_or s.rows a no_row).head ≡ first (l.row a) = ap (λ (r : Row). r.head) (w.rows a in_a) in
+      subst (λ x. Shows o (shifted_at s a b x) (move a b l)) (sym head) (shift_at a b ne in_a in_b (l.row a) refl long (t.listed a))
 
   draw_at : (k : ℕ) → 1 ≤ k → k ≤ o.setting.stations → (ys : List ℕ) → l.row k ≡ ys → 1 ≤ length ys → Listed l.mark o.codes (row_mark k) ys → Shows o (drawn_at s k (first ys)) (drawn_from k l ys)
   draw_at k one known [] here long p = absurd (omega arith)
@@ -213,7 +213,7 @@ module _ (o : Terms) (s : State) (l : Ledger) (t : Tidy o l) (w : Shows o s l) (
 
 -- One move keeps a ledger tidy and shown.
 pub shift_matches : (o : Terms) (s : State) (l : Ledger) (a b : ℕ) → (a ≡ b → ⊥) → a ≤ s.setting.stations → b ≤ s.setting.stations → 1 ≤ (get_or s.rows a no_row).count → Matches o s l → Matches o (shifted s a b) (move a b l)
-shift_matches o s l a b ne in-a in_b some m =
+shift_matches o s l a b ne in_a in_b some m =
     let e : s.setting.stations ≡ o.setting.stations = ap (λ (x : Setting). x.stations) m.shows.setting in
     let ka : a ≤ o.setting.stations = omega arith in
     let kb : b ≤ o.setting.stations = omega arith in

@@ -1,7 +1,7 @@
 // BLAKE2b-512 without a key (RFC 7693) over function F.
 ghost use Rattle.std.specs.Prelude.{◌≡◌, ◌+◌, ◌-◌, ◌*◌, ◌/◌, ◌≤◌, length, slice_index};
 ghost use Rattle.compression.specs.Blake2b.{compressed};
-ghost use Rattle.hashing.specs.Blake2.{padded, block as Block-of, final_state, blake2b};
+ghost use Rattle.hashing.specs.Blake2.{padded, block as block_of, final_state, blake2b};
 
 use compression::blake2b_f;
 
@@ -23,7 +23,7 @@ fn padded_byte(message: &[u8], k: usize) -> u8
 // The block i of the padded message.
 fn padded_block(message: &[u8], i: usize) -> [u8; 128]
     requires { 128 * i + 128 ≤ length (padded message.now) }
-    ensures { result ≡ Block-of (padded message.now) i }
+    ensures { result ≡ block_of (padded message.now) i }
 {
     let mut block = [0u8; 128];
     for j in 0..128 {

@@ -17,7 +17,7 @@ abbrev pub other : Way → Way
 other Sealing = Opening
 other Opening = Sealing
 
--- the message block, found again from the sum with the chaining-at value
+-- the message block, found again from the sum with the chaining_at value
 plain_other : (way : Way) (H X : List ℕ) → length X ≤ length H → plain (other way) H (H ⊕ X) ≡ plain way H X
 plain_other Sealing H X h = added_twice H X h
 plain_other Opening H X h = refl
@@ -85,7 +85,7 @@ module _ (b : ℕ) (F : List ℕ → List ℕ → List ℕ) (sized : (H M : List
     unfolding other_text
     block_other = block_chained b X (λ i. chaining_at b F way N t X i ⊕ block b X i) length_sum
 
-    -- where the chaining-at value is the same both ways, so is the message block
+    -- where the chaining_at value is the same both ways, so is the message block
     plain_back : (i : ℕ) → i < block_count b X → chaining_at b F (other way) N t (other_text b F way N t X) i ≡ chaining_at b F way N t X i → plain (other way) (chaining_at b F (other way) N t (other_text b F way N t X) i) (block b (other_text b F way N t X) i) ≡ plain way (chaining_at b F way N t X i) (block b X i)
     plain_back i h same =
         ap₂ (plain (other way)) same (block_other i h) ∙ plain_other way (chaining_at b F way N t X i) (block b X i) (block_fits i)

@@ -14,12 +14,12 @@ length_⊕ [] (y ∷ ys) h = absurd (omega arith)
 length_⊕ (x ∷ xs) [] h = refl
 length_⊕ (x ∷ xs) (y ∷ ys) h = ap suc (length_⊕ xs ys (omega arith))
 
-pub getD_⊕ : (xs ys : List ℕ) (i : ℕ) → i < length xs → i < length ys → get_or (xs ⊕ ys) i 0 ≡ bit_xor (get_or xs i 0) (get_or ys i 0)
+pub get_or_⊕ : (xs ys : List ℕ) (i : ℕ) → i < length xs → i < length ys → get_or (xs ⊕ ys) i 0 ≡ bit_xor (get_or xs i 0) (get_or ys i 0)
 unfolding zip_with
-getD_⊕ [] ys i h k = absurd (omega arith)
-getD_⊕ (x ∷ xs) [] i h k = absurd (omega arith)
-getD_⊕ (x ∷ xs) (y ∷ ys) zero h k = refl
-getD_⊕ (x ∷ xs) (y ∷ ys) (suc i) h k = getD_⊕ xs ys i (omega arith) (omega arith)
+get_or_⊕ [] ys i h k = absurd (omega arith)
+get_or_⊕ (x ∷ xs) [] i h k = absurd (omega arith)
+get_or_⊕ (x ∷ xs) (y ∷ ys) zero h k = refl
+get_or_⊕ (x ∷ xs) (y ∷ ys) (suc i) h k = get_or_⊕ xs ys i (omega arith) (omega arith)
 
 xor_twice : (x y : ℕ) → bit_xor x (bit_xor x y) ≡ y
 xor_twice x y = sym (xor_assoc x x y) ∙ ap (λ z. bit_xor z y) (xor_self x) ∙ xor_zero_l y
@@ -49,4 +49,4 @@ under_⊕ (x ∷ xs) (y ∷ ys) h k = (xor_lt 8 x y h.0 k.0, under_⊕ xs ys h.1
 pub sum_is : (xs ys zs : List ℕ) → length zs ≡ length xs → length xs ≡ length ys → ((k : ℕ) → k < length zs → get_or zs k 0 ≡ bit_xor (get_or xs k 0) (get_or ys k 0)) → zs ≡ xs ⊕ ys
 sum_is xs ys zs long same each =
     let size : length zs ≡ length (xs ⊕ ys) = sym (length_⊕ xs ys (omega arith) ∙ omega arith) in
-    ext_get_or 0 zs (xs ⊕ ys) size (λ k h. each k h ∙ sym (getD_⊕ xs ys k (omega arith) (omega arith)))
+    ext_get_or 0 zs (xs ⊕ ys) size (λ k h. each k h ∙ sym (get_or_⊕ xs ys k (omega arith) (omega arith)))

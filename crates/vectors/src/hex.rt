@@ -35,6 +35,7 @@ fn digit(nibble: u8) -> char {
     })
 }
 
+// Adds the bytes, two digits each.
 pub(crate) fn push_hex(text: &mut String, bytes: &[u8]) -> Result<(), AllocError> {
     for b in bytes {
         text.push(digit(b >> 4))?;

@@ -32,7 +32,7 @@ join-requires c =
 
 -- the head of the row that it leaves
 heads : (s : State) → ∥ Kept s ∥₁ → (a b : ℕ) → (a ≡ b → ⊥) → a ≤ s.setting.stations → b ≤ s.setting.stations → 1 ≤ (get_or s.rows a no_row).count → (1 ≤ (get_or s.rows a no_row).head) × ((get_or s.rows a no_row).head ≤ length s.cells)
-heads s q a b ne in-a in_b some = (head_low s q a in-a some, head_high s q a in-a some (one_of a b _ ne in-a in_b))
+heads s q a b ne in_a in_b some = (head_low s q a in_a some, head_high s q a in_a some (one_of a b _ ne in_a in_b))
 
 pub returns-in-None : goal.returns-in-None
 returns-in-None c =
