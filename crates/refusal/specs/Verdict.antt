@@ -1,4 +1,4 @@
--- How a call is refused or accepted. Assumes nothing.
+-- How a call is refused or accepted, what it answers, and what memory holds after it. Assumes nothing.
 use Rattle.std.specs.Prelude.{ℕ, Bool, cond, List, [], ◌∷◌, ◌++◌, length, drop, Ok, Err, Result}
 use Rattle.refusal.specs.declared.Refusal.{Refusal}
 use Rattle.refusal.specs.Number.{number}
@@ -12,16 +12,6 @@ abbrev pub judged : List (Bool × Refusal) → Verdict
 judged [] = Ok tt
 judged (o ∷ os) = cond o.0 (Err o.1) (judged os)
 
--- What memory holds after a call: `written` where it was accepted, and as it was `found` where it was refused.
-abbrev pub left : {X : Type 0} → Verdict → (found written : X) → X
-left (Ok _) found written = written
-left (Err _) found written = found
-
--- A verdict as a number: 0 where the call was accepted, else the number of its refusal.
-abbrev pub code : Verdict → ℕ
-code (Ok _) = 0
-code (Err r) = number r
-
 -- A verdict, and where it accepts, the next one.
 abbrev pub then : Verdict → Verdict → Verdict
 then (Ok _) next = next
@@ -32,16 +22,16 @@ abbrev pub answered : {A : Type 0} → Verdict → A → Result A Refusal
 answered (Ok _) answer = Ok answer
 answered (Err r) answer = Err r
 
--- What memory holds after a call that answered: `written` where it was accepted, and as it was `found` where it was refused.
-abbrev pub left_after : {A X : Type 0} → Result A Refusal → (found written : X) → X
-left_after (Ok _) found written = written
-left_after (Err _) found written = found
+-- What a call answered as a number: 0 where it was accepted, else the number of its refusal.
+abbrev pub code : {A : Type 0} → Result A Refusal → ℕ
+code (Ok _) = 0
+code (Err r) = number r
+
+-- What memory holds after a call: `written` where it was accepted, and as it was `found` where it was refused.
+abbrev pub left : {A X : Type 0} → Result A Refusal → (found written : X) → X
+left (Ok _) found written = written
+left (Err _) found written = found
 
 -- What a place holds after bytes are written at its front: the rest of it stays.
 abbrev pub at_front : (written place : List ℕ) → List ℕ
 at_front written place = written ++ drop (length written) place
-
--- What a call answered as a number: 0 where it was accepted, else the number of its refusal.
-abbrev pub answer_code : {A : Type 0} → Result A Refusal → ℕ
-answer_code (Ok _) = 0
-answer_code (Err r) = number r

@@ -4,9 +4,12 @@
 
 ghost use Rattle.std.specs.Prelude.{◌≡◌};
 ghost use Rattle.refusal.specs.Number.{number};
-ghost use Rattle.refusal.specs.Verdict.{code, answer_code};
+ghost use Rattle.refusal.specs.Verdict.{code};
 
-#[derive(Clone, Copy, Debug)]
+use std::error::Error;
+use std::fmt;
+
+#[derive(Clone, Copy, Debug, PartialEq, Eq)]
 pub enum Refusal {
     // no code cells, or too many
     CodeCount = 1,
@@ -56,31 +59,30 @@ pub enum Refusal {
     TagMismatch = 23,
 }
 
-impl Refusal {
-    // The number by which programs and other languages know the refusal.
-    pub fn number(self) -> u32
-        ensures { result ≡ number self }
-    {
-        self as u32
+// The number by which programs and other languages know a refusal.
+impl From<Refusal> for u32 {
+    ghost from_gives = { λ refusal n. n ≡ number refusal };
+
+    fn from(refusal: Refusal) -> u32 {
+        refusal as u32
     }
 }
 
-// A verdict as a number: 0 where the call was accepted, else the number of its refusal.
-pub fn code(verdict: Result<(), Refusal>) -> u32
-    ensures { result ≡ code verdict }
-{
-    match verdict {
-        Ok(()) => 0,
-        Err(refusal) => refusal.number(),
+// A refusal is shown as its number.
+impl fmt::Display for Refusal {
+    fn fmt<W: fmt::Write>(&self, f: &mut fmt::Formatter<W>) -> fmt::Result {
+        write!(f, "{}", u32::from(*self))
     }
 }
+
+impl Error for Refusal {}
 
 // What a call answered as a number: 0 where it was accepted, else the number of its refusal.
-pub fn answer_code<A: Drop>(answer: Result<A, Refusal>) -> u32
-    ensures { result ≡ answer_code answer }
+pub fn code<A: Drop>(answer: Result<A, Refusal>) -> u32
+    ensures { result ≡ code answer }
 {
     match answer {
         Ok(_) => 0,
-        Err(refusal) => refusal.number(),
+        Err(refusal) => u32::from(refusal),
     }
 }
