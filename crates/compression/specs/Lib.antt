@@ -1,4 +1,5 @@
 pub mod Compress
+pub mod Kinds
 pub mod Words
 pub mod Keyed
 pub mod Sha256

@@ -21,11 +21,11 @@ abbrev pub to_le : ℕ → ℕ → List ℕ
 to_le n x = reverse (to_be n x)
 
 -- The i-th word of n bytes in a string of bytes, in the byte order `from`.
-abbrev pub word : (from : List ℕ → ℕ) (n : ℕ) → List ℕ → ℕ → ℕ
+abbrev pub word : {W : Type 0} (from : List ℕ → W) (n : ℕ) → List ℕ → ℕ → W
 word from n bs i = from (take n (drop (n * i) bs))
 
 -- The first k such words.
-unfoldable pub words : (from : List ℕ → ℕ) (n k : ℕ) → List ℕ → List ℕ
+unfoldable pub words : {W : Type 0} (from : List ℕ → W) (n k : ℕ) → List ℕ → List W
 words from n k bs = map (word from n bs) (range_with_len 0 k)
 
 -- x + y modulo 2 ^ w.

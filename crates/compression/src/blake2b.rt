@@ -11,7 +11,7 @@ ghost use Rattle.compression.specs.Examples.{Blake2bExample};
 ghost use Rattle.compression.specs.Keyed.{blake2b};
 ghost use borrow.Author.Rules.{rules};
 
-use crate::words::{keyed, load_le, store_le};
+use crate::words::{keyed, load, store};
 use crate::{Compression, tested};
 use refusal::Refusal;
 
@@ -215,10 +215,10 @@ fn f_bytes(chaining: &[u8], block: &[u8], t: u128, last: bool, place: &mut [u8])
     ensures { place.new ≡ compressed chaining.now block.now t last }
 {
     let mut h = [0u64; 8];
-    load_le(chaining, &mut h);
+    load(chaining, &mut h);
     let mut m = [0u64; 16];
-    load_le(block, &mut m);
-    store_le(&f(&h, &m, t, last), place);
+    load(block, &mut m);
+    store(&f(&h, &m, t, last), place);
 }
 
 // Function F: the state of 64 bytes after a block of 128, where `t` counts the message's bytes up to the block's end and
@@ -253,13 +253,21 @@ fn f_keyed(key: &[u8], chaining: &[u8], message: &[u8], place: &mut [u8])
 pub struct Blake2b {}
 
 impl Compression for Blake2b {
-    ghost kind = { 2 };
+    ghost KIND = { 2 };
 
-    ghost block = { 64 };
+    const KIND: u8 = 2;
 
-    ghost shortest = { 16 };
+    ghost BLOCK_LEN = { 64 };
 
-    ghost longest = { 64 };
+    const BLOCK_LEN: usize = 64;
+
+    ghost SHORTEST_KEY = { 16 };
+
+    const SHORTEST_KEY: usize = 16;
+
+    ghost LONGEST_KEY = { 64 };
+
+    const LONGEST_KEY: usize = 64;
 
     ghost meaning = { blake2b };
 
@@ -273,29 +281,21 @@ impl Compression for Blake2b {
 
     ghost bytes = { unfold blake2b compressed F folded in λ key chaining message. Prim.search rules };
 
-    fn kind() -> u8 {
-        2
-    }
-
-    fn block_len() -> usize {
-        64
-    }
-
-    fn shortest_key() -> usize {
-        16
-    }
-
-    fn longest_key() -> usize {
-        64
-    }
-
     fn compress(
         key: &[u8],
         chaining: &[u8],
         message: &[u8],
         place: &mut [u8],
     ) -> Result<(), Refusal> {
-        tested(64, 16, 64, key, chaining, message, place)?;
+        tested(
+            Self::BLOCK_LEN,
+            Self::SHORTEST_KEY,
+            Self::LONGEST_KEY,
+            key,
+            chaining,
+            message,
+            place,
+        )?;
         f_keyed(key, chaining, message, place);
         Ok(())
     }

@@ -4,41 +4,39 @@
 ghost use Rattle.std.specs.Prelude.{◌≡◌, ℕ, ◌≤◌, ◌⊎◌, List, length};
 ghost use Rattle.std.specs.Int.Digits.{AllBelowBase};
 ghost use Rattle.refusal.specs.Verdict.{left};
-ghost use Rattle.compression.specs.Compress.{compress_verdict};
+ghost use Rattle.compression.specs.Compress.{key_verdict, compress_verdict};
 
 use refusal::Refusal;
 
 mod blake2b;
+mod kind;
 mod sha256;
 mod words;
 
 pub use blake2b::{Blake2b, blake2b_f, initial_value};
+pub use kind::Kind;
 pub use sha256::{Sha256, round_constant};
 
 // A keyed compression: one fixed function from a key, a chaining block and a message block to a block.
 pub trait Compression {
     // the number by which cards and calls know it
-    ghost kind: { ℕ };
-    // the bytes of a block
-    ghost block: { ℕ };
-    // the bytes of the shortest and of the longest key
-    ghost shortest: { ℕ };
+    ghost KIND: { ℕ };
 
-    ghost longest: { ℕ };
+    const KIND: u8;
+    // the bytes of a block
+    ghost BLOCK_LEN: { ℕ };
+
+    const BLOCK_LEN: usize;
+    // the bytes of the shortest and of the longest key
+    ghost SHORTEST_KEY: { ℕ };
+
+    const SHORTEST_KEY: usize;
+
+    ghost LONGEST_KEY: { ℕ };
+
+    const LONGEST_KEY: usize;
     // the function, from key, chaining block and message block
     ghost meaning: { List ℕ → List ℕ → List ℕ → List ℕ };
-
-    fn kind() -> u8
-        ensures { result ≡ kind };
-
-    fn block_len() -> usize
-        ensures { result ≡ block };
-
-    fn shortest_key() -> usize
-        ensures { result ≡ shortest };
-
-    fn longest_key() -> usize
-        ensures { result ≡ longest };
 
     // Writes the function's value to `place`, or refuses and leaves it as it was.
     fn compress(
@@ -47,18 +45,35 @@ pub trait Compression {
         message: &[u8],
         place: &mut [u8],
     ) -> Result<(), Refusal>
-        ensures verdict { result ≡ compress_verdict block shortest longest key.now chaining.now message.now place.old }
+        ensures verdict { result ≡ compress_verdict BLOCK_LEN SHORTEST_KEY LONGEST_KEY key.now chaining.now message.now place.old }
         ensures after { place.new ≡ left result place.old (meaning key.now chaining.now message.now) };
 
-    ghost numbered: { (1 ≤ kind) × (kind ≤ 7) };
+    ghost numbered: { (1 ≤ KIND) × (KIND ≤ 7) };
 
-    ghost blocked: { (block ≡ 32) ⊎ (block ≡ 64) };
+    ghost blocked: { (BLOCK_LEN ≡ 32) ⊎ (BLOCK_LEN ≡ 64) };
 
-    ghost ranged: { (16 ≤ shortest) × (shortest ≤ longest) × (longest ≤ block) };
+    ghost ranged: { (16 ≤ SHORTEST_KEY) × (SHORTEST_KEY ≤ LONGEST_KEY) × (LONGEST_KEY ≤ BLOCK_LEN) };
 
-    ghost sized: { (key chaining message : List ℕ) → length (meaning key chaining message) ≡ block };
+    ghost sized: { (key chaining message : List ℕ) → length (meaning key chaining message) ≡ BLOCK_LEN };
 
     ghost bytes: { (key chaining message : List ℕ) → AllBelowBase 256 (meaning key chaining message) };
+}
+
+// The test of a key, where keys have from `shortest` to `longest` bytes.
+fn fits(shortest: usize, longest: usize, key: &[u8]) -> Result<(), Refusal>
+    ensures { result ≡ key_verdict shortest longest key.now }
+{
+    if key.len() < shortest || longest < key.len() {
+        return Err(Refusal::KeyLength);
+    }
+    Ok(())
+}
+
+// Whether a key has a length that the compression takes.
+pub fn key_tested<C: Compression>(key: &[u8]) -> Result<(), Refusal>
+    ensures { result ≡ key_verdict C.SHORTEST_KEY C.LONGEST_KEY key.now }
+{
+    fits(C::SHORTEST_KEY, C::LONGEST_KEY, key)
 }
 
 // The tests of a compression, in their order: the same for every kind.
@@ -73,9 +88,7 @@ pub(crate) fn tested(
 ) -> Result<(), Refusal>
     ensures { result ≡ compress_verdict b shortest longest key.now chaining.now message.now place.now }
 {
-    if key.len() < shortest || longest < key.len() {
-        return Err(Refusal::KeyLength);
-    }
+    fits(shortest, longest, key)?;
     if chaining.len() != b || message.len() != b || place.len() != b {
         return Err(Refusal::PlaceLength);
     }

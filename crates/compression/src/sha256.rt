@@ -7,7 +7,7 @@ ghost use Rattle.compression.specs.Examples.{Sha256Example};
 ghost use Rattle.compression.specs.Keyed.{sha256};
 ghost use borrow.Author.Rules.{rules};
 
-use crate::words::{keyed, load_be, store_be};
+use crate::words::{keyed, load, store};
 use crate::{Compression, tested};
 use refusal::Refusal;
 use std::simd::u32x4;
@@ -181,8 +181,8 @@ fn next_four(a: u32x4, b: u32x4, c: u32x4, d: u32x4) -> u32x4
     low.shuffle(high, [0, 1, 6, 7])
 }
 
-// The four words from the word i on.
-fn load(w: &[u32; 64], i: usize) -> u32x4
+// The four words from the word i on, as lanes.
+fn lanes(w: &[u32; 64], i: usize) -> u32x4
     requires { i + 4 ≤ 64 }
     ensures { result ≡ take 4 (drop i w.now) }
 {
@@ -195,10 +195,10 @@ fn four_words(w: &mut [u32; 64], t: usize)
     ensures { (m : List ℕ) → take t w.old ≡ schedule (t - 16) m → take (t + 4) w.new ≡ schedule (t + 4 - 16) m }
 {
     let words = next_four(
-        load(w, t - 16),
-        load(w, t - 12),
-        load(w, t - 8),
-        load(w, t - 4),
+        lanes(w, t - 16),
+        lanes(w, t - 12),
+        lanes(w, t - 8),
+        lanes(w, t - 4),
     );
     words.copy_to_slice(&mut w[t..t + 4]);
 }
@@ -258,12 +258,12 @@ fn hash_block(chaining: &[u8], block: &[u8], place: &mut [u8])
     ensures { place.new ≡ hashed chaining.now block.now }
 {
     let mut h = [0u32; 8];
-    load_be(chaining, &mut h);
+    load(chaining, &mut h);
     let mut w = [0u32; 64];
-    load_be(block, &mut w[0..16]);
+    load(block, &mut w[0..16]);
     expand(&mut w);
     let v = start(&h);
-    store_be(&add_up(v, all_rounds(v, &w)), place);
+    store(&add_up(v, all_rounds(v, &w)), place);
 }
 
 // The same, of the block that a key and a message block make.
@@ -279,13 +279,21 @@ fn hash_keyed(key: &[u8], chaining: &[u8], message: &[u8], place: &mut [u8])
 pub struct Sha256 {}
 
 impl Compression for Sha256 {
-    ghost kind = { 1 };
+    ghost KIND = { 1 };
 
-    ghost block = { 32 };
+    const KIND: u8 = 1;
 
-    ghost shortest = { 16 };
+    ghost BLOCK_LEN = { 32 };
 
-    ghost longest = { 32 };
+    const BLOCK_LEN: usize = 32;
+
+    ghost SHORTEST_KEY = { 16 };
+
+    const SHORTEST_KEY: usize = 16;
+
+    ghost LONGEST_KEY = { 32 };
+
+    const LONGEST_KEY: usize = 32;
 
     ghost meaning = { sha256 };
 
@@ -299,29 +307,21 @@ impl Compression for Sha256 {
 
     ghost bytes = { unfold sha256 hashed next_hash in λ key chaining message. Prim.search rules };
 
-    fn kind() -> u8 {
-        1
-    }
-
-    fn block_len() -> usize {
-        32
-    }
-
-    fn shortest_key() -> usize {
-        16
-    }
-
-    fn longest_key() -> usize {
-        32
-    }
-
     fn compress(
         key: &[u8],
         chaining: &[u8],
         message: &[u8],
         place: &mut [u8],
     ) -> Result<(), Refusal> {
-        tested(32, 16, 32, key, chaining, message, place)?;
+        tested(
+            Self::BLOCK_LEN,
+            Self::SHORTEST_KEY,
+            Self::LONGEST_KEY,
+            key,
+            chaining,
+            message,
+            place,
+        )?;
         hash_keyed(key, chaining, message, place);
         Ok(())
     }

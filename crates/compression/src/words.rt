@@ -1,76 +1,95 @@
 // Words read from bytes and written to them, and the block that a key and a message block make.
-ghost use Rattle.std.specs.Prelude.{◌≡◌, ◌+◌, ◌*◌, ◌≤◌, length, replicate};
+ghost use Rattle.std.specs.Prelude.{◌≡◌, ℕ, ◌+◌, ◌*◌, ◌≤◌, List, length, replicate};
 ghost use Rattle.std.specs.List.{flat_map};
-ghost use Rattle.compression.specs.Words.{from_be, from_le, to_be, to_le, word, words};
+ghost use Rattle.std.proofs.Common.{rules};
+ghost use Rattle.compression.specs.Words.{from_be, from_le, to_be, to_le, words};
 ghost use Rattle.compression.specs.Keyed.{keyed_block};
 
-// The i-th word of four bytes, big-endian.
-fn be_word(bytes: &[u8], i: usize) -> u32
-    requires { 4 * i + 4 ≤ length bytes.now }
-    ensures { result ≡ word from_be 4 bytes.now i }
-{
-    u32::from_be_bytes([
-        bytes[4 * i],
-        bytes[4 * i + 1],
-        bytes[4 * i + 2],
-        bytes[4 * i + 3],
-    ])
+// A word of a hash function, which lies in bytes in the function's own byte order.
+pub(crate) trait Word: Copy {
+    // how many bytes it has
+    ghost SIZE: { ℕ };
+
+    const SIZE: usize;
+    // the word that so many bytes stand for, and the bytes of a word
+    ghost read: { List ℕ → Self };
+
+    ghost written: { Self → List ℕ };
+
+    fn read(bytes: &[u8]) -> Self
+        requires { length bytes.now ≡ SIZE }
+        ensures { result ≡ read bytes.now };
+
+    fn write(self, place: &mut [u8])
+        requires { length place.old ≡ SIZE }
+        ensures { place.new ≡ written self };
+
+    ghost sized: { (x : Self) → length (written x) ≡ SIZE };
 }
 
-// The i-th word of eight bytes, little-endian.
-fn le_word(bytes: &[u8], i: usize) -> u64
-    requires { 8 * i + 8 ≤ length bytes.now }
-    ensures { result ≡ word from_le 8 bytes.now i }
-{
-    u64::from_le_bytes([
-        bytes[8 * i],
-        bytes[8 * i + 1],
-        bytes[8 * i + 2],
-        bytes[8 * i + 3],
-        bytes[8 * i + 4],
-        bytes[8 * i + 5],
-        bytes[8 * i + 6],
-        bytes[8 * i + 7],
-    ])
-}
+// SHA-256's words, big-endian.
+impl Word for u32 {
+    ghost SIZE = { 4 };
 
-// Fills `out` with the big-endian words at the front of `bytes`.
-pub(crate) fn load_be(bytes: &[u8], out: &mut [u32])
-    requires { 4 * length out.old ≤ length bytes.now }
-    ensures { out.new ≡ words from_be 4 (length out.old) bytes.now }
-{
-    for i in 0..out.len() {
-        out[i] = be_word(bytes, i);
+    const SIZE: usize = 4;
+
+    ghost read = { from_be };
+
+    ghost written = { to_be 4 };
+
+    ghost sized = { λ x. Prim.search rules };
+
+    fn read(bytes: &[u8]) -> u32 {
+        u32::from_be_bytes([bytes[0], bytes[1], bytes[2], bytes[3]])
+    }
+
+    fn write(self, place: &mut [u8]) {
+        place.copy_from_slice(&self.to_be_bytes());
     }
 }
 
-// Fills `out` with the little-endian words at the front of `bytes`.
-pub(crate) fn load_le(bytes: &[u8], out: &mut [u64])
-    requires { 8 * length out.old ≤ length bytes.now }
-    ensures { out.new ≡ words from_le 8 (length out.old) bytes.now }
-{
-    for i in 0..out.len() {
-        out[i] = le_word(bytes, i);
+// BLAKE2b's words, little-endian.
+impl Word for u64 {
+    ghost SIZE = { 8 };
+
+    const SIZE: usize = 8;
+
+    ghost read = { from_le };
+
+    ghost written = { to_le 8 };
+
+    ghost sized = { λ x. Prim.search rules };
+
+    fn read(bytes: &[u8]) -> u64 {
+        u64::from_le_bytes([
+            bytes[0], bytes[1], bytes[2], bytes[3], bytes[4], bytes[5], bytes[6], bytes[7],
+        ])
+    }
+
+    fn write(self, place: &mut [u8]) {
+        place.copy_from_slice(&self.to_le_bytes());
     }
 }
 
-// Fills `place` with the bytes of eight words, big-endian.
-pub(crate) fn store_be(ws: &[u32; 8], place: &mut [u8])
-    requires { length place.old ≡ 32 }
-    ensures { place.new ≡ flat_map (to_be 4) ws.now }
+// Fills `out` with the words at the front of `bytes`.
+pub(crate) fn load<W: Word>(bytes: &[u8], out: &mut [W])
+    requires { W.SIZE * length out.old ≤ length bytes.now }
+    ensures { out.new ≡ words W.read W.SIZE (length out.old) bytes.now }
 {
-    for i in 0..8 {
-        place[4 * i..4 * i + 4].copy_from_slice(&ws[i].to_be_bytes());
+    for (i, word) in out.iter_mut().enumerate() {
+        let at = W::SIZE * i;
+        *word = W::read(&bytes[at..at + W::SIZE]);
     }
 }
 
-// Fills `place` with the bytes of eight words, little-endian.
-pub(crate) fn store_le(ws: &[u64; 8], place: &mut [u8])
-    requires { length place.old ≡ 64 }
-    ensures { place.new ≡ flat_map (to_le 8) ws.now }
+// Fills `place` with the bytes of eight words.
+pub(crate) fn store<W: Word>(ws: &[W; 8], place: &mut [u8])
+    requires { length place.old ≡ 8 * W.SIZE }
+    ensures { place.new ≡ flat_map W.written ws.now }
 {
-    for i in 0..8 {
-        place[8 * i..8 * i + 8].copy_from_slice(&ws[i].to_le_bytes());
+    for (i, word) in ws.iter().enumerate() {
+        let at = W::SIZE * i;
+        word.write(&mut place[at..at + W::SIZE]);
     }
 }
 

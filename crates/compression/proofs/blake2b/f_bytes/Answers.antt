@@ -7,5 +7,5 @@ use Rattle.compression.proofs.blake2b.f_bytes.Goals as goal
 pub returns : goal.returns
 unfolding compressed
 returns c =
-    c.store_le.ensures
-    ∙ ap (flat_map (to_le 8)) (c.f.ensures ∙ ap₂ (λ h m. F h m c.args.t c.args.last) c.load_le.ensures c.load_le-2.ensures)
+    c.store.ensures
+    ∙ ap (flat_map (to_le 8)) (c.f.ensures ∙ ap₂ (λ h m. F h m c.args.t c.args.last) c.load.ensures c.load-2.ensures)

@@ -10,9 +10,9 @@ returns c m h =
     let t : ℕ = c.args.t in
     let r = c.next_four-words.result in
     let p = take (t - 16) w in
-    let q = c.load.result ++ c.load-2.result ++ c.load-3.result ++ c.load-4.result in
+    let q = c.lanes.result ++ c.lanes-2.result ++ c.lanes-3.result ++ c.lanes-4.result in
     let split : take t w ≡ p ++ q =
-    loaded w t (omega arith) ∙ rw (c.load.ensures, c.load-2.ensures, c.load-3.ensures, c.load-4.ensures) in
+    loaded w t (omega arith) ∙ rw (c.lanes.ensures, c.lanes-2.ensures, c.lanes-3.ensures, c.lanes-4.ensures) in
     stored w t r (omega arith) (omega arith)
     ∙ ap (λ x. x ++ r) split
     ∙ append_assoc p q r
