@@ -47,14 +47,6 @@ fn as_published()
     ensures example { Blake2bExample }
 {}
 
-// The word i of the initial value.
-fn initial(i: usize) -> u64
-    requires { i < 8 }
-    ensures { result ≡ slice_index iv i }
-{
-    IV[i]
-}
-
 // The word i of the initial value, where there is one. Each word is from the square root of its prime, and the
 // definition that F is proved to meet gives the published example.
 pub fn initial_value(i: usize) -> Option<u64>
@@ -63,7 +55,7 @@ pub fn initial_value(i: usize) -> Option<u64>
     ensures example { Blake2bExample }
 {
     as_published();
-    if i < 8 { Some(initial(i)) } else { None }
+    if i < 8 { Some(IV[i]) } else { None }
 }
 
 // A word rotated to the right by n bits.

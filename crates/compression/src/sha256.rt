@@ -51,7 +51,7 @@ pub fn round_constant(t: usize) -> Option<u32>
     ensures example { Sha256Example }
 {
     as_published();
-    if t < 64 { Some(constant(t)) } else { None }
+    if t < 64 { Some(K[t]) } else { None }
 }
 
 // the working variables of a round
@@ -221,18 +221,21 @@ fn expand(w: &mut [u32; 64])
     four_words(w, 60);
 }
 
-fn start(h: &[u32; 8]) -> Variables
-    ensures { result ≡ variables h.now }
-{
-    Variables {
-        a: h[0],
-        b: h[1],
-        c: h[2],
-        d: h[3],
-        e: h[4],
-        f: h[5],
-        g: h[6],
-        h: h[7],
+// The working variables at the start are the words of the hash value.
+impl From<[u32; 8]> for Variables {
+    ghost from_gives = { λ h v. v ≡ variables h };
+
+    fn from(h: [u32; 8]) -> Variables {
+        Variables {
+            a: h[0],
+            b: h[1],
+            c: h[2],
+            d: h[3],
+            e: h[4],
+            f: h[5],
+            g: h[6],
+            h: h[7],
+        }
     }
 }
 
@@ -262,7 +265,7 @@ fn hash_block(chaining: &[u8], block: &[u8], place: &mut [u8])
     let mut w = [0u32; 64];
     load(block, &mut w[0..16]);
     expand(&mut w);
-    let v = start(&h);
+    let v = Variables::from(h);
     store(&add_up(v, all_rounds(v, &w)), place);
 }
 

@@ -1,4 +1,4 @@
-use Rattle.std.proofs.Common.{◌<◌, length, arith}
+use Rattle.std.proofs.Common.{length, arith}
 use Rattle.compression.specs.Words.{words, word}
 use Rattle.compression.proofs.WordBytes.{filled}
 use Rattle.compression.proofs.words.load.Goals as goal
