@@ -30,7 +30,7 @@ impl<'k, 'c, 'r, 's> Block<'k, 'c, 'r, 's> {
         register: &'r mut [RegisterCell],
         stations: &'s [Station],
     ) -> Block<'k, 'c, 'r, 's>
-        ensures opened { Opened (record { kind = C.Compression.kind; shortest = C.Compression.shortest; longest = C.Compression.longest; site = site; number = block; key = key.now; codes = codes.old; register = register.old; stations = stations.now }) (view result.t) }
+        ensures opened { Opened (record { kind = C.Compression.KIND; shortest = C.Compression.SHORTEST_KEY; longest = C.Compression.LONGEST_KEY; site = site; number = block; key = key.now; codes = codes.old; register = register.old; stations = stations.now }) (view result.t) }
         ensures examples { ExamplesHold }
     {
         Block {

@@ -46,7 +46,7 @@ pub fn check<C: Compression>(
     register: &[RegisterCell],
     stations: &[Station],
 ) -> Result<(), Refusal>
-    ensures { result ≡ check_verdict (record { kind = C.Compression.kind; shortest = C.Compression.shortest; longest = C.Compression.longest; site = site; number = block; key = key.now; codes = codes.now; register = register.now; stations = stations.now }) }
+    ensures { result ≡ check_verdict (record { kind = C.Compression.KIND; shortest = C.Compression.SHORTEST_KEY; longest = C.Compression.LONGEST_KEY; site = site; number = block; key = key.now; codes = codes.now; register = register.now; stations = stations.now }) }
 {
     if no_size(codes.len()) {
         return Err(Refusal::CodeCount);
@@ -60,7 +60,7 @@ pub fn check<C: Compression>(
     if site == 0 || block == 0 {
         return Err(Refusal::BlockNumber);
     }
-    if key.len() < C::shortest_key() || C::longest_key() < key.len() {
+    if key.len() < C::SHORTEST_KEY || C::LONGEST_KEY < key.len() {
         return Err(Refusal::KeyLength);
     }
     Ok(())

@@ -97,11 +97,11 @@ impl<'k, 'c, 'r, 's> Tables<'k, 'c, 'r, 's> {
         register: &'r mut [RegisterCell],
         stations: &'s [Station],
     ) -> Tables<'k, 'c, 'r, 's>
-        ensures opened { Opened (record { kind = C.Compression.kind; shortest = C.Compression.shortest; longest = C.Compression.longest; site = site; number = block; key = key.now; codes = codes.old; register = register.old; stations = stations.now }) (view result) }
+        ensures opened { Opened (record { kind = C.Compression.KIND; shortest = C.Compression.SHORTEST_KEY; longest = C.Compression.LONGEST_KEY; site = site; number = block; key = key.now; codes = codes.old; register = register.old; stations = stations.now }) (view result) }
         ensures examples { ExamplesHold }
         ensures sound { ∥ Sound (view result) ∥₁ }
     {
-        let kind = C::kind();
+        let kind = C::KIND;
         match check::<C>(site, block, key, codes, register, stations) {
             Err(_) => {
                 let none = Row { head: 0, count: 0 };

@@ -1,6 +1,6 @@
 // Building a card image.
 ghost use Rattle.std.specs.Prelude.{◌≡◌, ◌+◌, ◌≤◌, [], ◌∷◌, ◌++◌, length, take, drop, Ok};
-ghost use Rattle.refusal.specs.Verdict.{answered, left_after, at_front};
+ghost use Rattle.refusal.specs.Verdict.{answered, left, at_front};
 ghost use Rattle.compression.specs.Words.{to_be};
 ghost use Rattle.sealing.specs.Omd.{sealed};
 ghost use Rattle.sealing.specs.Calls.{seal_verdict};
@@ -20,9 +20,9 @@ use sealing::seal;
 
 // The key has a length that the compression takes.
 pub(crate) fn key_tested<C: Compression>(key: &[u8]) -> Result<(), Refusal>
-    ensures { result ≡ key_verdict C.Compression.shortest C.Compression.longest key.now }
+    ensures { result ≡ key_verdict C.Compression.SHORTEST_KEY C.Compression.LONGEST_KEY key.now }
 {
-    if key.len() < C::shortest_key() || C::longest_key() < key.len() {
+    if key.len() < C::SHORTEST_KEY || C::LONGEST_KEY < key.len() {
         return Err(Refusal::KeyLength);
     }
     Ok(())
@@ -36,8 +36,8 @@ fn build_tested<C: Compression>(
     message: &[u8],
     place: &[u8],
 ) -> Result<(), Refusal>
-    ensures verdict { result ≡ build_verdict C.Compression.shortest C.Compression.longest key.now label header.now message.now place.now }
-    ensures fits { result ≡ Ok tt → Buildable C.Compression.shortest C.Compression.longest key.now header.now message.now place.now }
+    ensures verdict { result ≡ build_verdict C.Compression.SHORTEST_KEY C.Compression.LONGEST_KEY key.now label header.now message.now place.now }
+    ensures fits { result ≡ Ok tt → Buildable C.Compression.SHORTEST_KEY C.Compression.LONGEST_KEY key.now header.now message.now place.now }
 {
     key_tested::<C>(key)?;
     if LONGEST_HEADER < header.len() || LONGEST_MESSAGE < message.len() {
@@ -95,9 +95,9 @@ fn seal_behind<C: Compression>(
     tag: &mut [u8],
 ) -> Result<usize, Refusal>
     requires { 16 ≤ length front.now }
-    ensures answer { result ≡ answered (seal_verdict C.Compression.block C.Compression.shortest C.Compression.longest key.now (take 12 (drop 1 front.now)) front.now message.now 16 ciphertext.old tag.old) (length message.now) }
-    ensures ciphertext { ciphertext.new ≡ left_after result ciphertext.old (at_front (sealed C.Compression.block (C.Compression.meaning key.now) (take 12 (drop 1 front.now)) front.now message.now 16).0 ciphertext.old) }
-    ensures tag { tag.new ≡ left_after result tag.old (at_front (sealed C.Compression.block (C.Compression.meaning key.now) (take 12 (drop 1 front.now)) front.now message.now 16).1 tag.old) }
+    ensures answer { result ≡ answered (seal_verdict C.Compression.BLOCK_LEN C.Compression.SHORTEST_KEY C.Compression.LONGEST_KEY key.now (take 12 (drop 1 front.now)) front.now message.now 16 ciphertext.old tag.old) (length message.now) }
+    ensures ciphertext { ciphertext.new ≡ left result ciphertext.old (at_front (sealed C.Compression.BLOCK_LEN (C.Compression.meaning key.now) (take 12 (drop 1 front.now)) front.now message.now 16).0 ciphertext.old) }
+    ensures tag { tag.new ≡ left result tag.old (at_front (sealed C.Compression.BLOCK_LEN (C.Compression.meaning key.now) (take 12 (drop 1 front.now)) front.now message.now 16).1 tag.old) }
 {
     let nonce = &front[SITE_AT..STATION_AT];
     seal::<C>(key, nonce, front, message, TAG_LEN, ciphertext, tag)
@@ -111,11 +111,11 @@ fn seal_parts<C: Compression>(
     ciphertext: &mut [u8],
     tag: &mut [u8],
 )
-    requires key { key_verdict C.Compression.shortest C.Compression.longest key.now ≡ Ok tt }
+    requires key { key_verdict C.Compression.SHORTEST_KEY C.Compression.LONGEST_KEY key.now ≡ Ok tt }
     requires lengths { (16 ≤ length front.now) × ((length front.now ≤ 80) × (length message.now ≤ 96)) }
     requires places { (length ciphertext.old ≡ length message.now) × (length tag.old ≡ 16) }
-    ensures ciphertext { ciphertext.new ≡ (sealed C.Compression.block (C.Compression.meaning key.now) (take 12 (drop 1 front.now)) front.now message.now 16).0 }
-    ensures tag { tag.new ≡ (sealed C.Compression.block (C.Compression.meaning key.now) (take 12 (drop 1 front.now)) front.now message.now 16).1 }
+    ensures ciphertext { ciphertext.new ≡ (sealed C.Compression.BLOCK_LEN (C.Compression.meaning key.now) (take 12 (drop 1 front.now)) front.now message.now 16).0 }
+    ensures tag { tag.new ≡ (sealed C.Compression.BLOCK_LEN (C.Compression.meaning key.now) (take 12 (drop 1 front.now)) front.now message.now 16).1 }
 {
     let _ = seal_behind::<C>(key, front, message, ciphertext, tag);
 }
@@ -138,15 +138,15 @@ fn put_image<C: Compression>(
     message: &[u8],
     place: &mut [u8],
 ) -> usize
-    requires { Buildable C.Compression.shortest C.Compression.longest key.now header.now message.now place.old }
+    requires { Buildable C.Compression.SHORTEST_KEY C.Compression.LONGEST_KEY key.now header.now message.now place.old }
     ensures length { result ≡ 32 + length header.now + length message.now }
-    ensures place { place.new ≡ at_front (image C.Compression.kind C.Compression.block (C.Compression.meaning key.now) label header.now message.now) place.old }
+    ensures place { place.new ≡ at_front (image C.Compression.KIND C.Compression.BLOCK_LEN (C.Compression.meaning key.now) label header.now message.now) place.old }
 {
     let n = HEADER_AT + header.len();
     let w = message.len();
     let mut front = [0u8; LONGEST_FRONT];
     let mut tag = [0u8; TAG_LEN];
-    put_front(C::kind(), label, header, w as u8, &mut front);
+    put_front(C::KIND, label, header, w as u8, &mut front);
     place[0..n].copy_from_slice(&front[0..n]);
     seal_parts::<C>(key, &front[0..n], message, &mut place[n..n + w], &mut tag);
     place[n + w..n + w + TAG_LEN].copy_from_slice(&tag);
@@ -155,7 +155,7 @@ fn put_image<C: Compression>(
 
 // An image that was built is read again: a proof and no code.
 fn built_is_read<C: Compression>(key: &[u8], label: Label, header: &[u8], message: &[u8])
-    ensures { BuiltImagesAreRead C.Compression.kind C.Compression.block C.Compression.meaning key.now label header.now message.now }
+    ensures { BuiltImagesAreRead C.Compression.KIND C.Compression.BLOCK_LEN C.Compression.meaning key.now label header.now message.now }
 {}
 
 // Builds the image of a label, a header and a message: writes it to the front of its place and answers its length.
@@ -166,9 +166,9 @@ pub fn build_image<C: Compression>(
     message: &[u8],
     place: &mut [u8],
 ) -> Result<usize, Refusal>
-    ensures answer { result ≡ answered (build_verdict C.Compression.shortest C.Compression.longest key.now label header.now message.now place.old) (32 + length header.now + length message.now) }
-    ensures place { place.new ≡ left_after result place.old (at_front (image C.Compression.kind C.Compression.block (C.Compression.meaning key.now) label header.now message.now) place.old) }
-    ensures read { BuiltImagesAreRead C.Compression.kind C.Compression.block C.Compression.meaning key.now label header.now message.now }
+    ensures answer { result ≡ answered (build_verdict C.Compression.SHORTEST_KEY C.Compression.LONGEST_KEY key.now label header.now message.now place.old) (32 + length header.now + length message.now) }
+    ensures place { place.new ≡ left result place.old (at_front (image C.Compression.KIND C.Compression.BLOCK_LEN (C.Compression.meaning key.now) label header.now message.now) place.old) }
+    ensures read { BuiltImagesAreRead C.Compression.KIND C.Compression.BLOCK_LEN C.Compression.meaning key.now label header.now message.now }
 {
     built_is_read::<C>(key, label, header, message);
     build_tested::<C>(key, label, header, message, place)?;

@@ -26,8 +26,8 @@ fn open_behind<C: Compression>(
     place: &mut [u8],
 ) -> Result<usize, Refusal>
     requires { 16 ≤ length front.now }
-    ensures answer { result ≡ answered (open_verdict C.Compression.block C.Compression.shortest C.Compression.longest key.now (take 12 (drop 1 front.now)) front.now ciphertext.now tag.now place.old (opened C.Compression.block (C.Compression.meaning key.now) (take 12 (drop 1 front.now)) front.now ciphertext.now tag.now)) (length ciphertext.now) }
-    ensures place { place.new ≡ opened_place result (deciphered C.Compression.block (C.Compression.meaning key.now) (take 12 (drop 1 front.now)) (length tag.now) ciphertext.now) place.old }
+    ensures answer { result ≡ answered (open_verdict C.Compression.BLOCK_LEN C.Compression.SHORTEST_KEY C.Compression.LONGEST_KEY key.now (take 12 (drop 1 front.now)) front.now ciphertext.now tag.now place.old (opened C.Compression.BLOCK_LEN (C.Compression.meaning key.now) (take 12 (drop 1 front.now)) front.now ciphertext.now tag.now)) (length ciphertext.now) }
+    ensures place { place.new ≡ opened_place result (deciphered C.Compression.BLOCK_LEN (C.Compression.meaning key.now) (take 12 (drop 1 front.now)) (length tag.now) ciphertext.now) place.old }
 {
     let nonce = &front[SITE_AT..STATION_AT];
     open::<C>(key, nonce, front, ciphertext, tag, place)
@@ -40,12 +40,12 @@ fn open_parts<C: Compression>(
     parts: Parts,
     place: &mut [u8],
 ) -> Result<usize, Refusal>
-    requires key { key_verdict C.Compression.shortest C.Compression.longest key.now ≡ Ok tt }
-    requires looked { look_verdict C.Compression.kind image.now ≡ Ok tt }
+    requires key { key_verdict C.Compression.SHORTEST_KEY C.Compression.LONGEST_KEY key.now ≡ Ok tt }
+    requires looked { look_verdict C.Compression.KIND image.now ≡ Ok tt }
     requires parts { shown_parts parts ≡ shown_in image.now }
     requires place { message_length image.now ≤ length place.old }
-    ensures answer { result ≡ answered (judged ((not (is_some (opened_image C.Compression.block (C.Compression.meaning key.now) image.now)), TagMismatch) ∷ [])) (message_length image.now) }
-    ensures place { place.new ≡ opened_place result (message_in C.Compression.block (C.Compression.meaning key.now) image.now) place.old }
+    ensures answer { result ≡ answered (judged ((not (is_some (opened_image C.Compression.BLOCK_LEN (C.Compression.meaning key.now) image.now)), TagMismatch) ∷ [])) (message_length image.now) }
+    ensures place { place.new ≡ opened_place result (message_in C.Compression.BLOCK_LEN (C.Compression.meaning key.now) image.now) place.old }
 {
     open_behind::<C>(
         key,
@@ -58,11 +58,11 @@ fn open_parts<C: Compression>(
 
 // Opens, as the definitions say.
 fn open_named<C: Compression>(key: &[u8], image: &[u8], place: &mut [u8]) -> Result<usize, Refusal>
-    ensures answer { result ≡ open_answer C.Compression.kind C.Compression.block C.Compression.shortest C.Compression.longest C.Compression.meaning key.now image.now place.old }
-    ensures place { place.new ≡ open_place C.Compression.kind C.Compression.block C.Compression.shortest C.Compression.longest C.Compression.meaning key.now image.now place.old }
+    ensures answer { result ≡ open_answer C.Compression.KIND C.Compression.BLOCK_LEN C.Compression.SHORTEST_KEY C.Compression.LONGEST_KEY C.Compression.meaning key.now image.now place.old }
+    ensures place { place.new ≡ open_place C.Compression.KIND C.Compression.BLOCK_LEN C.Compression.SHORTEST_KEY C.Compression.LONGEST_KEY C.Compression.meaning key.now image.now place.old }
 {
     key_tested::<C>(key)?;
-    let parts = ImageReader::new(u32::from(C::kind()), image).look()?;
+    let parts = ImageReader::new(u32::from(C::KIND), image).look()?;
     if place.len() < parts.ciphertext.len() {
         return Err(Refusal::PlaceLength);
     }
@@ -75,9 +75,9 @@ fn open_exactly<C: Compression>(
     image: &[u8],
     place: &mut [u8],
 ) -> Result<usize, Refusal>
-    ensures answer { result ≡ open_answer C.Compression.kind C.Compression.block C.Compression.shortest C.Compression.longest C.Compression.meaning key.now image.now place.old }
-    ensures place { place.new ≡ open_place C.Compression.kind C.Compression.block C.Compression.shortest C.Compression.longest C.Compression.meaning key.now image.now place.old }
-    ensures built { OpensWhatWasBuilt C.Compression.kind C.Compression.block C.Compression.shortest C.Compression.longest C.Compression.meaning key.now image.now place.old result place.new }
+    ensures answer { result ≡ open_answer C.Compression.KIND C.Compression.BLOCK_LEN C.Compression.SHORTEST_KEY C.Compression.LONGEST_KEY C.Compression.meaning key.now image.now place.old }
+    ensures place { place.new ≡ open_place C.Compression.KIND C.Compression.BLOCK_LEN C.Compression.SHORTEST_KEY C.Compression.LONGEST_KEY C.Compression.meaning key.now image.now place.old }
+    ensures built { OpensWhatWasBuilt C.Compression.KIND C.Compression.BLOCK_LEN C.Compression.SHORTEST_KEY C.Compression.LONGEST_KEY C.Compression.meaning key.now image.now place.old result place.new }
 {
     open_named::<C>(key, image, place)
 }
@@ -90,9 +90,9 @@ pub fn open_image<C: Compression>(
     image: &[u8],
     place: &mut [u8],
 ) -> Result<usize, Refusal>
-    ensures answer { result ≡ open_answer C.Compression.kind C.Compression.block C.Compression.shortest C.Compression.longest C.Compression.meaning key.now image.now place.old }
-    ensures place { place.new ≡ open_place C.Compression.kind C.Compression.block C.Compression.shortest C.Compression.longest C.Compression.meaning key.now image.now place.old }
-    ensures built { OpensWhatWasBuilt C.Compression.kind C.Compression.block C.Compression.shortest C.Compression.longest C.Compression.meaning key.now image.now place.old result place.new }
+    ensures answer { result ≡ open_answer C.Compression.KIND C.Compression.BLOCK_LEN C.Compression.SHORTEST_KEY C.Compression.LONGEST_KEY C.Compression.meaning key.now image.now place.old }
+    ensures place { place.new ≡ open_place C.Compression.KIND C.Compression.BLOCK_LEN C.Compression.SHORTEST_KEY C.Compression.LONGEST_KEY C.Compression.meaning key.now image.now place.old }
+    ensures built { OpensWhatWasBuilt C.Compression.KIND C.Compression.BLOCK_LEN C.Compression.SHORTEST_KEY C.Compression.LONGEST_KEY C.Compression.meaning key.now image.now place.old result place.new }
 {
     open_exactly::<C>(key, image, place)
 }
@@ -108,9 +108,9 @@ pub fn open_image_by_kind(
     ensures answer { result ≡ answer_by_kind kind key.now image.now place.old }
     ensures place { place.new ≡ place_by_kind kind key.now image.now place.old }
 {
-    if kind == u32::from(Sha256::kind()) {
+    if kind == u32::from(Sha256::KIND) {
         open_image::<Sha256>(key, image, place)
-    } else if kind == u32::from(Blake2b::kind()) {
+    } else if kind == u32::from(Blake2b::KIND) {
         open_image::<Blake2b>(key, image, place)
     } else {
         look_tested(kind, image)?;

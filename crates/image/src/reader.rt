@@ -28,7 +28,7 @@ pub struct Parts<'a> {
 fn known(kind: u32) -> bool
     ensures { result ≡ known kind }
 {
-    kind == u32::from(Sha256::kind()) || kind == u32::from(Blake2b::kind())
+    kind == u32::from(Sha256::KIND) || kind == u32::from(Blake2b::KIND)
 }
 
 // The lengths in the image do not add up.

@@ -38,7 +38,7 @@ pub extern "C" fn hurbezki_open_image(
             length: length as u32,
         },
         Err(refusal) => HurbezkiOpened {
-            refusal: refusal.number(),
+            refusal: u32::from(refusal),
             length: 0,
         },
     }

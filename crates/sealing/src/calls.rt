@@ -1,7 +1,7 @@
 // The calls: sealing a message, and opening what was sealed.
 ghost use Rattle.std.specs.Prelude.{◌≡◌, ℕ, ◌≤◌, List, length, is_some, Ok, Result};
 ghost use Rattle.refusal.specs.declared.Refusal.{Refusal};
-ghost use Rattle.refusal.specs.Verdict.{judged, answered, left_after, at_front};
+ghost use Rattle.refusal.specs.Verdict.{judged, answered, left, at_front};
 ghost use Rattle.sealing.specs.Strings.{zeros};
 ghost use Rattle.sealing.specs.Omd.{sealed, deciphered, opened};
 ghost use Rattle.sealing.specs.Calls.{objections, seal_verdict, open_verdict, opened_place};
@@ -26,10 +26,10 @@ fn tested<C: Compression>(
     room: usize,
     tag_room: usize,
 ) -> Result<(), Refusal>
-    ensures { result ≡ judged (objections C.Compression.block C.Compression.shortest C.Compression.longest key.now nonce.now «data».now text.now tag_len room tag_room) }
+    ensures { result ≡ judged (objections C.Compression.BLOCK_LEN C.Compression.SHORTEST_KEY C.Compression.LONGEST_KEY key.now nonce.now «data».now text.now tag_len room tag_room) }
 {
-    let b = C::block_len();
-    if key.len() < C::shortest_key() || C::longest_key() < key.len() {
+    let b = C::BLOCK_LEN;
+    if key.len() < C::SHORTEST_KEY || C::LONGEST_KEY < key.len() {
         return Err(Refusal::KeyLength);
     }
     if room < text.len() || tag_room < tag_len {
@@ -57,9 +57,9 @@ fn seal_tested<C: Compression>(
     ciphertext: &mut [u8],
     tag: &mut [u8],
 )
-    requires { seal_verdict C.Compression.block C.Compression.shortest C.Compression.longest key.now nonce.now «data».now message.now tag_len ciphertext.old tag.old ≡ Ok tt }
-    ensures ciphertext { ciphertext.new ≡ at_front (sealed C.Compression.block (C.Compression.meaning key.now) nonce.now «data».now message.now tag_len).0 ciphertext.old }
-    ensures tag { tag.new ≡ at_front (sealed C.Compression.block (C.Compression.meaning key.now) nonce.now «data».now message.now tag_len).1 tag.old }
+    requires { seal_verdict C.Compression.BLOCK_LEN C.Compression.SHORTEST_KEY C.Compression.LONGEST_KEY key.now nonce.now «data».now message.now tag_len ciphertext.old tag.old ≡ Ok tt }
+    ensures ciphertext { ciphertext.new ≡ at_front (sealed C.Compression.BLOCK_LEN (C.Compression.meaning key.now) nonce.now «data».now message.now tag_len).0 ciphertext.old }
+    ensures tag { tag.new ≡ at_front (sealed C.Compression.BLOCK_LEN (C.Compression.meaning key.now) nonce.now «data».now message.now tag_len).1 tag.old }
 {
     let n = message.len();
     crossed_and_tagged::<C>(
@@ -83,10 +83,10 @@ pub fn seal<C: Compression>(
     ciphertext: &mut [u8],
     tag: &mut [u8],
 ) -> Result<usize, Refusal>
-    ensures answer { result ≡ answered (seal_verdict C.Compression.block C.Compression.shortest C.Compression.longest key.now nonce.now «data».now message.now tag_len ciphertext.old tag.old) (length message.now) }
-    ensures ciphertext { ciphertext.new ≡ left_after result ciphertext.old (at_front (sealed C.Compression.block (C.Compression.meaning key.now) nonce.now «data».now message.now tag_len).0 ciphertext.old) }
-    ensures tag { tag.new ≡ left_after result tag.old (at_front (sealed C.Compression.block (C.Compression.meaning key.now) nonce.now «data».now message.now tag_len).1 tag.old) }
-    ensures lawful { SealingIsLawful C.Compression.block (C.Compression.meaning key.now) }
+    ensures answer { result ≡ answered (seal_verdict C.Compression.BLOCK_LEN C.Compression.SHORTEST_KEY C.Compression.LONGEST_KEY key.now nonce.now «data».now message.now tag_len ciphertext.old tag.old) (length message.now) }
+    ensures ciphertext { ciphertext.new ≡ left result ciphertext.old (at_front (sealed C.Compression.BLOCK_LEN (C.Compression.meaning key.now) nonce.now «data».now message.now tag_len).0 ciphertext.old) }
+    ensures tag { tag.new ≡ left result tag.old (at_front (sealed C.Compression.BLOCK_LEN (C.Compression.meaning key.now) nonce.now «data».now message.now tag_len).1 tag.old) }
+    ensures lawful { SealingIsLawful C.Compression.BLOCK_LEN (C.Compression.meaning key.now) }
 {
     lawful::<C>(key);
     tested::<C>(
@@ -104,7 +104,7 @@ pub fn seal<C: Compression>(
 
 // What OMD promises of every compression: a proof and no code.
 fn lawful<C: Compression>(key: &[u8])
-    ensures { SealingIsLawful C.Compression.block (C.Compression.meaning key.now) }
+    ensures { SealingIsLawful C.Compression.BLOCK_LEN (C.Compression.meaning key.now) }
 {}
 
 // Recovers the message where nothing objects, and says whether the tag is the right one.
@@ -116,10 +116,10 @@ fn recover<C: Compression>(
     tag: &[u8],
     message: &mut [u8],
 ) -> bool
-    requires { judged (objections C.Compression.block C.Compression.shortest C.Compression.longest key.now nonce.now «data».now ciphertext.now (length tag.now) (length message.old) (length tag.now)) ≡ Ok tt }
-    ensures right { result ≡ is_some (opened C.Compression.block (C.Compression.meaning key.now) nonce.now «data».now ciphertext.now tag.now) }
-    ensures message { message.new ≡ at_front (deciphered C.Compression.block (C.Compression.meaning key.now) nonce.now (length tag.now) ciphertext.now) message.old }
-    ensures size { length (deciphered C.Compression.block (C.Compression.meaning key.now) nonce.now (length tag.now) ciphertext.now) ≡ length ciphertext.now }
+    requires { judged (objections C.Compression.BLOCK_LEN C.Compression.SHORTEST_KEY C.Compression.LONGEST_KEY key.now nonce.now «data».now ciphertext.now (length tag.now) (length message.old) (length tag.now)) ≡ Ok tt }
+    ensures right { result ≡ is_some (opened C.Compression.BLOCK_LEN (C.Compression.meaning key.now) nonce.now «data».now ciphertext.now tag.now) }
+    ensures message { message.new ≡ at_front (deciphered C.Compression.BLOCK_LEN (C.Compression.meaning key.now) nonce.now (length tag.now) ciphertext.now) message.old }
+    ensures size { length (deciphered C.Compression.BLOCK_LEN (C.Compression.meaning key.now) nonce.now (length tag.now) ciphertext.now) ≡ length ciphertext.now }
     ensures rest { at_front (zeros (length ciphertext.now)) message.new ≡ at_front (zeros (length ciphertext.now)) message.old }
 {
     let n = ciphertext.len();
@@ -149,7 +149,7 @@ fn clear(place: &mut [u8], n: usize)
 
 // Opening answers a message exactly when sealing it gives what was presented: a proof and no code.
 fn exact<C: Compression>(key: &[u8], nonce: &[u8], data: &[u8], ciphertext: &[u8], tag: &[u8])
-    ensures { (place after : List ℕ) (r : Result ℕ Refusal) → r ≡ answered (open_verdict C.Compression.block C.Compression.shortest C.Compression.longest key.now nonce.now «data».now ciphertext.now tag.now place (opened C.Compression.block (C.Compression.meaning key.now) nonce.now «data».now ciphertext.now tag.now)) (length ciphertext.now) → after ≡ opened_place r (deciphered C.Compression.block (C.Compression.meaning key.now) nonce.now (length tag.now) ciphertext.now) place → OpensExactly C.Compression.block C.Compression.shortest C.Compression.longest C.Compression.meaning key.now nonce.now «data».now ciphertext.now tag.now place r after }
+    ensures { (place after : List ℕ) (r : Result ℕ Refusal) → r ≡ answered (open_verdict C.Compression.BLOCK_LEN C.Compression.SHORTEST_KEY C.Compression.LONGEST_KEY key.now nonce.now «data».now ciphertext.now tag.now place (opened C.Compression.BLOCK_LEN (C.Compression.meaning key.now) nonce.now «data».now ciphertext.now tag.now)) (length ciphertext.now) → after ≡ opened_place r (deciphered C.Compression.BLOCK_LEN (C.Compression.meaning key.now) nonce.now (length tag.now) ciphertext.now) place → OpensExactly C.Compression.BLOCK_LEN C.Compression.SHORTEST_KEY C.Compression.LONGEST_KEY C.Compression.meaning key.now nonce.now «data».now ciphertext.now tag.now place r after }
 {}
 
 // Opens, as the definitions say.
@@ -161,8 +161,8 @@ fn open_named<C: Compression>(
     tag: &[u8],
     message: &mut [u8],
 ) -> Result<usize, Refusal>
-    ensures answer { result ≡ answered (open_verdict C.Compression.block C.Compression.shortest C.Compression.longest key.now nonce.now «data».now ciphertext.now tag.now message.old (opened C.Compression.block (C.Compression.meaning key.now) nonce.now «data».now ciphertext.now tag.now)) (length ciphertext.now) }
-    ensures message { message.new ≡ opened_place result (deciphered C.Compression.block (C.Compression.meaning key.now) nonce.now (length tag.now) ciphertext.now) message.old }
+    ensures answer { result ≡ answered (open_verdict C.Compression.BLOCK_LEN C.Compression.SHORTEST_KEY C.Compression.LONGEST_KEY key.now nonce.now «data».now ciphertext.now tag.now message.old (opened C.Compression.BLOCK_LEN (C.Compression.meaning key.now) nonce.now «data».now ciphertext.now tag.now)) (length ciphertext.now) }
+    ensures message { message.new ≡ opened_place result (deciphered C.Compression.BLOCK_LEN (C.Compression.meaning key.now) nonce.now (length tag.now) ciphertext.now) message.old }
 {
     let n = ciphertext.len();
     tested::<C>(
@@ -191,9 +191,9 @@ pub fn open<C: Compression>(
     tag: &[u8],
     message: &mut [u8],
 ) -> Result<usize, Refusal>
-    ensures answer { result ≡ answered (open_verdict C.Compression.block C.Compression.shortest C.Compression.longest key.now nonce.now «data».now ciphertext.now tag.now message.old (opened C.Compression.block (C.Compression.meaning key.now) nonce.now «data».now ciphertext.now tag.now)) (length ciphertext.now) }
-    ensures message { message.new ≡ opened_place result (deciphered C.Compression.block (C.Compression.meaning key.now) nonce.now (length tag.now) ciphertext.now) message.old }
-    ensures exactly { OpensExactly C.Compression.block C.Compression.shortest C.Compression.longest C.Compression.meaning key.now nonce.now «data».now ciphertext.now tag.now message.old result message.new }
+    ensures answer { result ≡ answered (open_verdict C.Compression.BLOCK_LEN C.Compression.SHORTEST_KEY C.Compression.LONGEST_KEY key.now nonce.now «data».now ciphertext.now tag.now message.old (opened C.Compression.BLOCK_LEN (C.Compression.meaning key.now) nonce.now «data».now ciphertext.now tag.now)) (length ciphertext.now) }
+    ensures message { message.new ≡ opened_place result (deciphered C.Compression.BLOCK_LEN (C.Compression.meaning key.now) nonce.now (length tag.now) ciphertext.now) message.old }
+    ensures exactly { OpensExactly C.Compression.BLOCK_LEN C.Compression.SHORTEST_KEY C.Compression.LONGEST_KEY C.Compression.meaning key.now nonce.now «data».now ciphertext.now tag.now message.old result message.new }
 {
     exact::<C>(key, nonce, data, ciphertext, tag);
     open_named::<C>(key, nonce, data, ciphertext, tag, message)

@@ -43,11 +43,11 @@ fn fill_rows(rows: &mut [[u8; 64]; 12], count: usize, b: usize, twice: &[u8; 64]
 
 // Works out the masks for block numbers up to `most`.
 pub(crate) fn work_out<C: Compression>(key: &[u8], most: usize) -> Masks
-    requires key { KeyFits C.Compression.shortest C.Compression.longest key.now }
+    requires key { KeyFits C.Compression.SHORTEST_KEY C.Compression.LONGEST_KEY key.now }
     requires number { most < 4096 }
-    ensures { Serves C.Compression.block (C.Compression.meaning key.now) most result }
+    ensures { Serves C.Compression.BLOCK_LEN (C.Compression.meaning key.now) most result }
 {
-    let b = C::block_len();
+    let b = C::BLOCK_LEN;
     let zeros = [0u8; 64];
     let mut once = [0u8; 64];
     compress::<C>(key, &zeros[0..b], &zeros[0..b], &mut once[0..b]);

@@ -24,8 +24,8 @@ pub(crate) fn compress<C: Compression>(
     message: &[u8],
     place: &mut [u8],
 )
-    requires key { KeyFits C.Compression.shortest C.Compression.longest key.now }
-    requires blocks { (length chaining.now ≡ C.Compression.block) × ((length message.now ≡ C.Compression.block) × (length place.old ≡ C.Compression.block)) }
+    requires key { KeyFits C.Compression.SHORTEST_KEY C.Compression.LONGEST_KEY key.now }
+    requires blocks { (length chaining.now ≡ C.Compression.BLOCK_LEN) × ((length message.now ≡ C.Compression.BLOCK_LEN) × (length place.old ≡ C.Compression.BLOCK_LEN)) }
     ensures { place.new ≡ C.Compression.meaning key.now chaining.now message.now }
 {
     let _ = C::compress(key, chaining, message, place);
@@ -33,11 +33,11 @@ pub(crate) fn compress<C: Compression>(
 
 // Compresses a message block into the chaining value, with the mask added to it.
 fn fold<C: Compression>(key: &[u8], mask: &[u8], message: &[u8], chaining: &mut [u8])
-    requires key { KeyFits C.Compression.shortest C.Compression.longest key.now }
-    requires blocks { (length mask.now ≡ C.Compression.block) × ((length message.now ≡ C.Compression.block) × (length chaining.old ≡ C.Compression.block)) }
+    requires key { KeyFits C.Compression.SHORTEST_KEY C.Compression.LONGEST_KEY key.now }
+    requires blocks { (length mask.now ≡ C.Compression.BLOCK_LEN) × ((length message.now ≡ C.Compression.BLOCK_LEN) × (length chaining.old ≡ C.Compression.BLOCK_LEN)) }
     ensures { chaining.new ≡ C.Compression.meaning key.now (chaining.old ⊕ mask.now) message.now }
 {
-    let b = C::block_len();
+    let b = C::BLOCK_LEN;
     let mut masked = [0u8; 64];
     sum(&mut masked[0..b], chaining, mask);
     compress::<C>(key, &masked[0..b], message, chaining);
@@ -55,11 +55,11 @@ fn cross<C: Compression>(
     mask: &mut [u8],
     chaining: &mut [u8],
 )
-    requires key { KeyFits C.Compression.shortest C.Compression.longest key.now }
+    requires key { KeyFits C.Compression.SHORTEST_KEY C.Compression.LONGEST_KEY key.now }
     requires number { (1 ≤ number) × (number < 4095) }
-    requires blocks { (length input.now ≡ C.Compression.block) × ((length output.old ≡ C.Compression.block) × ((length mask.old ≡ C.Compression.block) × (length chaining.old ≡ C.Compression.block))) }
+    requires blocks { (length input.now ≡ C.Compression.BLOCK_LEN) × ((length output.old ≡ C.Compression.BLOCK_LEN) × ((length mask.old ≡ C.Compression.BLOCK_LEN) × (length chaining.old ≡ C.Compression.BLOCK_LEN))) }
     ensures text { output.new ≡ chaining.old ⊕ input.now }
-    ensures mask { mask.new ≡ mask.old ⊕ take C.Compression.block (slice_index_or masks.now.rows (ntz (number + 1)) []) }
+    ensures mask { mask.new ≡ mask.old ⊕ take C.Compression.BLOCK_LEN (slice_index_or masks.now.rows (ntz (number + 1)) []) }
     ensures chaining { chaining.new ≡ C.Compression.meaning key.now (chaining.old ⊕ mask.new) (plain way chaining.old input.now) }
 {
     sum(output, chaining, input);
@@ -81,11 +81,11 @@ fn put_number(n: u64, place: &mut [u8])
 
 // The mask before the first block, from the nonce.
 fn start<C: Compression>(key: &[u8], nonce: &[u8], mask: &mut [u8])
-    requires key { KeyFits C.Compression.shortest C.Compression.longest key.now }
-    requires lengths { (length nonce.now < C.Compression.block) × (length mask.old ≡ C.Compression.block) }
-    ensures { mask.new ≡ Δ₀ C.Compression.block (C.Compression.meaning key.now) nonce.now }
+    requires key { KeyFits C.Compression.SHORTEST_KEY C.Compression.LONGEST_KEY key.now }
+    requires lengths { (length nonce.now < C.Compression.BLOCK_LEN) × (length mask.old ≡ C.Compression.BLOCK_LEN) }
+    ensures { mask.new ≡ Δ₀ C.Compression.BLOCK_LEN (C.Compression.meaning key.now) nonce.now }
 {
-    let b = C::block_len();
+    let b = C::BLOCK_LEN;
     let zeros = [0u8; 64];
     let mut padded = [0u8; 64];
     pad(nonce, &mut padded[0..b]);
@@ -94,11 +94,11 @@ fn start<C: Compression>(key: &[u8], nonce: &[u8], mask: &mut [u8])
 
 // The chaining value at the first block, from its mask.
 fn first_chaining<C: Compression>(key: &[u8], mask: &[u8], tag_len: usize, chaining: &mut [u8])
-    requires key { KeyFits C.Compression.shortest C.Compression.longest key.now }
-    requires lengths { (tag_len ≤ C.Compression.block) × ((length mask.now ≡ C.Compression.block) × (length chaining.old ≡ C.Compression.block)) }
-    ensures { chaining.new ≡ C.Compression.meaning key.now mask.now (to_be C.Compression.block (8 * tag_len)) }
+    requires key { KeyFits C.Compression.SHORTEST_KEY C.Compression.LONGEST_KEY key.now }
+    requires lengths { (tag_len ≤ C.Compression.BLOCK_LEN) × ((length mask.now ≡ C.Compression.BLOCK_LEN) × (length chaining.old ≡ C.Compression.BLOCK_LEN)) }
+    ensures { chaining.new ≡ C.Compression.meaning key.now mask.now (to_be C.Compression.BLOCK_LEN (8 * tag_len)) }
 {
-    let b = C::block_len();
+    let b = C::BLOCK_LEN;
     let mut bits = [0u8; 64];
     put_number(8 * tag_len as u64, &mut bits[0..b]);
     compress::<C>(key, mask, &bits[0..b], chaining);
@@ -116,18 +116,18 @@ fn cross_all<C: Compression>(
     mask: &mut [u8],
     chaining: &mut [u8],
 )
-    requires key { KeyFits C.Compression.shortest C.Compression.longest key.now }
-    requires masks { Serves C.Compression.block (C.Compression.meaning key.now) (block_count C.Compression.block input.now) masks.now }
-    requires lengths { (length nonce.now < C.Compression.block) × ((tag_len ≤ C.Compression.block) × (length input.now ≤ 65535)) }
-    requires places { (length output.old ≡ length input.now) × ((length mask.old ≡ C.Compression.block) × (length chaining.old ≡ C.Compression.block)) }
-    ensures text { output.new ≡ chained (crossed C.Compression.block (C.Compression.meaning key.now) way nonce.now tag_len input.now) (last_block C.Compression.block input.now) ++ drop (last_block C.Compression.block input.now * C.Compression.block) output.old }
-    ensures mask { mask.new ≡ Δ C.Compression.block (C.Compression.meaning key.now) (Δ₀ C.Compression.block (C.Compression.meaning key.now) nonce.now) (last_block C.Compression.block input.now + 1) }
-    ensures chaining { chaining.new ≡ chaining_at C.Compression.block (C.Compression.meaning key.now) way nonce.now tag_len input.now (last_block C.Compression.block input.now) }
+    requires key { KeyFits C.Compression.SHORTEST_KEY C.Compression.LONGEST_KEY key.now }
+    requires masks { Serves C.Compression.BLOCK_LEN (C.Compression.meaning key.now) (block_count C.Compression.BLOCK_LEN input.now) masks.now }
+    requires lengths { (length nonce.now < C.Compression.BLOCK_LEN) × ((tag_len ≤ C.Compression.BLOCK_LEN) × (length input.now ≤ 65535)) }
+    requires places { (length output.old ≡ length input.now) × ((length mask.old ≡ C.Compression.BLOCK_LEN) × (length chaining.old ≡ C.Compression.BLOCK_LEN)) }
+    ensures text { output.new ≡ chained (crossed C.Compression.BLOCK_LEN (C.Compression.meaning key.now) way nonce.now tag_len input.now) (last_block C.Compression.BLOCK_LEN input.now) ++ drop (last_block C.Compression.BLOCK_LEN input.now * C.Compression.BLOCK_LEN) output.old }
+    ensures mask { mask.new ≡ Δ C.Compression.BLOCK_LEN (C.Compression.meaning key.now) (Δ₀ C.Compression.BLOCK_LEN (C.Compression.meaning key.now) nonce.now) (last_block C.Compression.BLOCK_LEN input.now + 1) }
+    ensures chaining { chaining.new ≡ chaining_at C.Compression.BLOCK_LEN (C.Compression.meaning key.now) way nonce.now tag_len input.now (last_block C.Compression.BLOCK_LEN input.now) }
 {
     start::<C>(key, nonce, mask);
     add_row(masks, 1, mask);
     first_chaining::<C>(key, mask, tag_len, chaining);
-    let b = C::block_len();
+    let b = C::BLOCK_LEN;
     for i in 0..input.len().saturating_sub(1) / b {
         let at = i * b;
         cross::<C>(
@@ -151,12 +151,12 @@ fn end_short<C: Compression>(
     mask: &mut [u8],
     chaining: &mut [u8],
 )
-    requires key { KeyFits C.Compression.shortest C.Compression.longest key.now }
-    requires masks { Serves C.Compression.block (C.Compression.meaning key.now) 0 masks.now }
-    requires blocks { (length message.now < C.Compression.block) × ((length mask.old ≡ C.Compression.block) × (length chaining.old ≡ C.Compression.block)) }
-    ensures { chaining.new ≡ C.Compression.meaning key.now (chaining.old ⊕ (mask.old ⊕ triple (L⋆ C.Compression.block (C.Compression.meaning key.now)))) (padded C.Compression.block message.now) }
+    requires key { KeyFits C.Compression.SHORTEST_KEY C.Compression.LONGEST_KEY key.now }
+    requires masks { Serves C.Compression.BLOCK_LEN (C.Compression.meaning key.now) 0 masks.now }
+    requires blocks { (length message.now < C.Compression.BLOCK_LEN) × ((length mask.old ≡ C.Compression.BLOCK_LEN) × (length chaining.old ≡ C.Compression.BLOCK_LEN)) }
+    ensures { chaining.new ≡ C.Compression.meaning key.now (chaining.old ⊕ (mask.old ⊕ triple (L⋆ C.Compression.BLOCK_LEN (C.Compression.meaning key.now)))) (padded C.Compression.BLOCK_LEN message.now) }
 {
-    let b = C::block_len();
+    let b = C::BLOCK_LEN;
     let mut thrice = [0u8; 64];
     sum(&mut thrice[0..b], &masks.twice[0..b], &masks.once[0..b]);
     add(mask, &thrice[0..b]);
@@ -173,12 +173,12 @@ fn end_whole<C: Compression>(
     mask: &mut [u8],
     chaining: &mut [u8],
 )
-    requires key { KeyFits C.Compression.shortest C.Compression.longest key.now }
-    requires masks { Serves C.Compression.block (C.Compression.meaning key.now) 0 masks.now }
-    requires blocks { (length message.now ≡ C.Compression.block) × ((length mask.old ≡ C.Compression.block) × (length chaining.old ≡ C.Compression.block)) }
-    ensures { chaining.new ≡ C.Compression.meaning key.now (chaining.old ⊕ (mask.old ⊕ double (L⋆ C.Compression.block (C.Compression.meaning key.now)))) message.now }
+    requires key { KeyFits C.Compression.SHORTEST_KEY C.Compression.LONGEST_KEY key.now }
+    requires masks { Serves C.Compression.BLOCK_LEN (C.Compression.meaning key.now) 0 masks.now }
+    requires blocks { (length message.now ≡ C.Compression.BLOCK_LEN) × ((length mask.old ≡ C.Compression.BLOCK_LEN) × (length chaining.old ≡ C.Compression.BLOCK_LEN)) }
+    ensures { chaining.new ≡ C.Compression.meaning key.now (chaining.old ⊕ (mask.old ⊕ double (L⋆ C.Compression.BLOCK_LEN (C.Compression.meaning key.now)))) message.now }
 {
-    let b = C::block_len();
+    let b = C::BLOCK_LEN;
     add(mask, &masks.twice[0..b]);
     fold::<C>(key, mask, message, chaining);
 }
@@ -191,12 +191,12 @@ fn end<C: Compression>(
     mask: &mut [u8],
     chaining: &mut [u8],
 )
-    requires key { KeyFits C.Compression.shortest C.Compression.longest key.now }
-    requires masks { Serves C.Compression.block (C.Compression.meaning key.now) 0 masks.now }
-    requires blocks { (length message.now ≤ C.Compression.block) × ((length mask.old ≡ C.Compression.block) × (length chaining.old ≡ C.Compression.block)) }
-    ensures { chaining.new ≡ ended C.Compression.block (C.Compression.meaning key.now) mask.old chaining.old message.now }
+    requires key { KeyFits C.Compression.SHORTEST_KEY C.Compression.LONGEST_KEY key.now }
+    requires masks { Serves C.Compression.BLOCK_LEN (C.Compression.meaning key.now) 0 masks.now }
+    requires blocks { (length message.now ≤ C.Compression.BLOCK_LEN) × ((length mask.old ≡ C.Compression.BLOCK_LEN) × (length chaining.old ≡ C.Compression.BLOCK_LEN)) }
+    ensures { chaining.new ≡ ended C.Compression.BLOCK_LEN (C.Compression.meaning key.now) mask.old chaining.old message.now }
 {
-    if message.len() == C::block_len() {
+    if message.len() == C::BLOCK_LEN {
         end_whole::<C>(key, masks, message, mask, chaining);
     } else if message.len() > 0 {
         end_short::<C>(key, masks, message, mask, chaining);
@@ -213,11 +213,11 @@ fn cross_last<C: Compression>(
     mask: &mut [u8],
     chaining: &mut [u8],
 )
-    requires key { KeyFits C.Compression.shortest C.Compression.longest key.now }
-    requires masks { Serves C.Compression.block (C.Compression.meaning key.now) 0 masks.now }
-    requires blocks { (length input.now ≤ C.Compression.block) × ((length output.old ≡ length input.now) × ((length mask.old ≡ C.Compression.block) × (length chaining.old ≡ C.Compression.block))) }
+    requires key { KeyFits C.Compression.SHORTEST_KEY C.Compression.LONGEST_KEY key.now }
+    requires masks { Serves C.Compression.BLOCK_LEN (C.Compression.meaning key.now) 0 masks.now }
+    requires blocks { (length input.now ≤ C.Compression.BLOCK_LEN) × ((length output.old ≡ length input.now) × ((length mask.old ≡ C.Compression.BLOCK_LEN) × (length chaining.old ≡ C.Compression.BLOCK_LEN))) }
     ensures text { output.new ≡ chaining.old ⊕ input.now }
-    ensures end { chaining.new ≡ ended C.Compression.block (C.Compression.meaning key.now) mask.old chaining.old (plain way chaining.old input.now) }
+    ensures end { chaining.new ≡ ended C.Compression.BLOCK_LEN (C.Compression.meaning key.now) mask.old chaining.old (plain way chaining.old input.now) }
 {
     let n = input.len();
     sum(output, &chaining[0..n], input);
@@ -238,14 +238,14 @@ fn cross_text<C: Compression>(
     output: &mut [u8],
     chaining: &mut [u8],
 )
-    requires key { KeyFits C.Compression.shortest C.Compression.longest key.now }
-    requires masks { Serves C.Compression.block (C.Compression.meaning key.now) (block_count C.Compression.block input.now) masks.now }
-    requires lengths { (length nonce.now < C.Compression.block) × ((tag_len ≤ C.Compression.block) × (length input.now ≤ 65535)) }
-    requires places { (length output.old ≡ length input.now) × (length chaining.old ≡ C.Compression.block) }
-    ensures text { output.new ≡ other_text C.Compression.block (C.Compression.meaning key.now) way nonce.now tag_len input.now }
-    ensures end { chaining.new ≡ ended_at C.Compression.block (C.Compression.meaning key.now) way nonce.now tag_len input.now (last_block C.Compression.block input.now) }
+    requires key { KeyFits C.Compression.SHORTEST_KEY C.Compression.LONGEST_KEY key.now }
+    requires masks { Serves C.Compression.BLOCK_LEN (C.Compression.meaning key.now) (block_count C.Compression.BLOCK_LEN input.now) masks.now }
+    requires lengths { (length nonce.now < C.Compression.BLOCK_LEN) × ((tag_len ≤ C.Compression.BLOCK_LEN) × (length input.now ≤ 65535)) }
+    requires places { (length output.old ≡ length input.now) × (length chaining.old ≡ C.Compression.BLOCK_LEN) }
+    ensures text { output.new ≡ other_text C.Compression.BLOCK_LEN (C.Compression.meaning key.now) way nonce.now tag_len input.now }
+    ensures end { chaining.new ≡ ended_at C.Compression.BLOCK_LEN (C.Compression.meaning key.now) way nonce.now tag_len input.now (last_block C.Compression.BLOCK_LEN input.now) }
 {
-    let b = C::block_len();
+    let b = C::BLOCK_LEN;
     let mut mask = [0u8; 64];
     cross_all::<C>(
         way,
@@ -273,11 +273,11 @@ fn cross_text<C: Compression>(
 
 // Adds what a block of the associated data gives under its mask.
 fn absorb<C: Compression>(key: &[u8], mask: &[u8], block: &[u8], to: &mut [u8])
-    requires key { KeyFits C.Compression.shortest C.Compression.longest key.now }
-    requires blocks { (length block.now ≡ 2 * C.Compression.block) × ((length mask.now ≡ C.Compression.block) × (length to.old ≡ C.Compression.block)) }
-    ensures { to.new ≡ to.old ⊕ halves C.Compression.block (C.Compression.meaning key.now) block.now mask.now }
+    requires key { KeyFits C.Compression.SHORTEST_KEY C.Compression.LONGEST_KEY key.now }
+    requires blocks { (length block.now ≡ 2 * C.Compression.BLOCK_LEN) × ((length mask.now ≡ C.Compression.BLOCK_LEN) × (length to.old ≡ C.Compression.BLOCK_LEN)) }
+    ensures { to.new ≡ to.old ⊕ halves C.Compression.BLOCK_LEN (C.Compression.meaning key.now) block.now mask.now }
 {
-    let b = C::block_len();
+    let b = C::BLOCK_LEN;
     let (first, second) = block.split_at(b);
     let mut value = [0u8; 64];
     value[0..b].copy_from_slice(first);
@@ -287,9 +287,9 @@ fn absorb<C: Compression>(key: &[u8], mask: &[u8], block: &[u8], to: &mut [u8])
 
 // The bytes of a block of associated data.
 fn data_block_len<C: Compression>() -> usize
-    ensures { result ≡ 2 * C.Compression.block }
+    ensures { result ≡ 2 * C.Compression.BLOCK_LEN }
 {
-    2 * C::block_len()
+    2 * C::BLOCK_LEN
 }
 
 // All whole blocks of the associated data, from zeros: leaves their sum, and the mask of the last.
@@ -300,11 +300,11 @@ fn absorb_whole<C: Compression>(
     mask: &mut [u8],
     to: &mut [u8],
 )
-    requires key { KeyFits C.Compression.shortest C.Compression.longest key.now }
-    requires masks { Serves C.Compression.block (C.Compression.meaning key.now) (length «data».now / (2 * C.Compression.block)) masks.now }
-    requires places { (length «data».now ≤ 65535) × ((mask.old ≡ zeros C.Compression.block) × (to.old ≡ zeros C.Compression.block)) }
-    ensures mask { mask.new ≡ Δ C.Compression.block (C.Compression.meaning key.now) (zeros C.Compression.block) (length «data».now / (2 * C.Compression.block)) }
-    ensures sum { to.new ≡ summed C.Compression.block (absorbed C.Compression.block (C.Compression.meaning key.now) «data».now) (length «data».now / (2 * C.Compression.block)) }
+    requires key { KeyFits C.Compression.SHORTEST_KEY C.Compression.LONGEST_KEY key.now }
+    requires masks { Serves C.Compression.BLOCK_LEN (C.Compression.meaning key.now) (length «data».now / (2 * C.Compression.BLOCK_LEN)) masks.now }
+    requires places { (length «data».now ≤ 65535) × ((mask.old ≡ zeros C.Compression.BLOCK_LEN) × (to.old ≡ zeros C.Compression.BLOCK_LEN)) }
+    ensures mask { mask.new ≡ Δ C.Compression.BLOCK_LEN (C.Compression.meaning key.now) (zeros C.Compression.BLOCK_LEN) (length «data».now / (2 * C.Compression.BLOCK_LEN)) }
+    ensures sum { to.new ≡ summed C.Compression.BLOCK_LEN (absorbed C.Compression.BLOCK_LEN (C.Compression.meaning key.now) «data».now) (length «data».now / (2 * C.Compression.BLOCK_LEN)) }
 {
     let b = data_block_len::<C>();
     for i in 0..data.len() / b {
@@ -322,12 +322,12 @@ fn absorb_short<C: Compression>(
     mask: &mut [u8],
     to: &mut [u8],
 )
-    requires key { KeyFits C.Compression.shortest C.Compression.longest key.now }
-    requires masks { Serves C.Compression.block (C.Compression.meaning key.now) 0 masks.now }
-    requires blocks { (length «data».now < 2 * C.Compression.block) × ((length mask.old ≡ C.Compression.block) × (length to.old ≡ C.Compression.block)) }
-    ensures { to.new ≡ to.old ⊕ halves C.Compression.block (C.Compression.meaning key.now) (padded (2 * C.Compression.block) «data».now) (mask.old ⊕ L⋆ C.Compression.block (C.Compression.meaning key.now)) }
+    requires key { KeyFits C.Compression.SHORTEST_KEY C.Compression.LONGEST_KEY key.now }
+    requires masks { Serves C.Compression.BLOCK_LEN (C.Compression.meaning key.now) 0 masks.now }
+    requires blocks { (length «data».now < 2 * C.Compression.BLOCK_LEN) × ((length mask.old ≡ C.Compression.BLOCK_LEN) × (length to.old ≡ C.Compression.BLOCK_LEN)) }
+    ensures { to.new ≡ to.old ⊕ halves C.Compression.BLOCK_LEN (C.Compression.meaning key.now) (padded (2 * C.Compression.BLOCK_LEN) «data».now) (mask.old ⊕ L⋆ C.Compression.BLOCK_LEN (C.Compression.meaning key.now)) }
 {
-    let b = C::block_len();
+    let b = C::BLOCK_LEN;
     add(mask, &masks.once[0..b]);
     let n = data_block_len::<C>();
     let mut block = [0u8; 128];
@@ -337,12 +337,12 @@ fn absorb_short<C: Compression>(
 
 // What the tag has of the associated data, in a place of zeros.
 fn hash<C: Compression>(key: &[u8], masks: &Masks, data: &[u8], to: &mut [u8])
-    requires key { KeyFits C.Compression.shortest C.Compression.longest key.now }
-    requires masks { Serves C.Compression.block (C.Compression.meaning key.now) (length «data».now / (2 * C.Compression.block)) masks.now }
-    requires places { (1 ≤ length «data».now) × ((length «data».now ≤ 65535) × (to.old ≡ zeros C.Compression.block)) }
-    ensures { to.new ≡ HASH C.Compression.block (C.Compression.meaning key.now) «data».now }
+    requires key { KeyFits C.Compression.SHORTEST_KEY C.Compression.LONGEST_KEY key.now }
+    requires masks { Serves C.Compression.BLOCK_LEN (C.Compression.meaning key.now) (length «data».now / (2 * C.Compression.BLOCK_LEN)) masks.now }
+    requires places { (1 ≤ length «data».now) × ((length «data».now ≤ 65535) × (to.old ≡ zeros C.Compression.BLOCK_LEN)) }
+    ensures { to.new ≡ HASH C.Compression.BLOCK_LEN (C.Compression.meaning key.now) «data».now }
 {
-    let b = C::block_len();
+    let b = C::BLOCK_LEN;
     let mut mask = [0u8; 64];
     absorb_whole::<C>(key, masks, data, &mut mask[0..b], to);
     let n = data.len();
@@ -362,13 +362,13 @@ pub(crate) fn crossed_and_tagged<C: Compression>(
     output: &mut [u8],
     tag: &mut [u8],
 )
-    requires key { KeyFits C.Compression.shortest C.Compression.longest key.now }
-    requires lengths { (length nonce.now < C.Compression.block) × ((1 ≤ length «data».now) × ((length «data».now ≤ 65535) × (length input.now ≤ 65535))) }
-    requires places { (length output.old ≡ length input.now) × (length tag.old ≤ C.Compression.block) }
-    ensures text { output.new ≡ other_text C.Compression.block (C.Compression.meaning key.now) way nonce.now (length tag.old) input.now }
-    ensures tag { tag.new ≡ Tag C.Compression.block (C.Compression.meaning key.now) way nonce.now «data».now (length tag.old) input.now }
+    requires key { KeyFits C.Compression.SHORTEST_KEY C.Compression.LONGEST_KEY key.now }
+    requires lengths { (length nonce.now < C.Compression.BLOCK_LEN) × ((1 ≤ length «data».now) × ((length «data».now ≤ 65535) × (length input.now ≤ 65535))) }
+    requires places { (length output.old ≡ length input.now) × (length tag.old ≤ C.Compression.BLOCK_LEN) }
+    ensures text { output.new ≡ other_text C.Compression.BLOCK_LEN (C.Compression.meaning key.now) way nonce.now (length tag.old) input.now }
+    ensures tag { tag.new ≡ Tag C.Compression.BLOCK_LEN (C.Compression.meaning key.now) way nonce.now «data».now (length tag.old) input.now }
 {
-    let b = C::block_len();
+    let b = C::BLOCK_LEN;
     let t = tag.len();
     let blocks = input.len().saturating_sub(1) / b + 1;
     let masks = work_out::<C>(key, blocks.max(data.len() / data_block_len::<C>()));

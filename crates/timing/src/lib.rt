@@ -2,7 +2,7 @@
 #![tactic(auto)]
 
 ghost use Rattle.std.specs.Prelude.{◌≡◌, length};
-ghost use Rattle.refusal.specs.Verdict.{code, left, answer_code, answered, left_after, at_front};
+ghost use Rattle.refusal.specs.Verdict.{code, left, answered, at_front};
 ghost use Rattle.compression.specs.Compress.{compress_verdict};
 ghost use Rattle.compression.specs.Keyed.{sha256, blake2b};
 ghost use Rattle.sealing.specs.Omd.{sealed, deciphered, opened};
@@ -49,12 +49,12 @@ pub extern "C" fn timing_seal_sha256(
     ciphertext: &mut [u8],
     tag: &mut [u8],
 ) -> u32
-    ensures answer { result ≡ answer_code (answered (seal_verdict 32 16 32 key.now nonce.now «data».now message.now tag_len ciphertext.old tag.old) (length message.now)) }
-    ensures ciphertext { ciphertext.new ≡ left_after (answered (seal_verdict 32 16 32 key.now nonce.now «data».now message.now tag_len ciphertext.old tag.old) (length message.now)) ciphertext.old (at_front (sealed 32 (sha256 key.now) nonce.now «data».now message.now tag_len).0 ciphertext.old) }
-    ensures tag { tag.new ≡ left_after (answered (seal_verdict 32 16 32 key.now nonce.now «data».now message.now tag_len ciphertext.old tag.old) (length message.now)) tag.old (at_front (sealed 32 (sha256 key.now) nonce.now «data».now message.now tag_len).1 tag.old) }
+    ensures answer { result ≡ code (answered (seal_verdict 32 16 32 key.now nonce.now «data».now message.now tag_len ciphertext.old tag.old) (length message.now)) }
+    ensures ciphertext { ciphertext.new ≡ left (answered (seal_verdict 32 16 32 key.now nonce.now «data».now message.now tag_len ciphertext.old tag.old) (length message.now)) ciphertext.old (at_front (sealed 32 (sha256 key.now) nonce.now «data».now message.now tag_len).0 ciphertext.old) }
+    ensures tag { tag.new ≡ left (answered (seal_verdict 32 16 32 key.now nonce.now «data».now message.now tag_len ciphertext.old tag.old) (length message.now)) tag.old (at_front (sealed 32 (sha256 key.now) nonce.now «data».now message.now tag_len).1 tag.old) }
 {
     let answer = sealing::seal::<Sha256>(key, nonce, data, message, tag_len, ciphertext, tag);
-    refusal::answer_code(answer)
+    refusal::code(answer)
 }
 
 // Sealing with kind 2, and the number of its refusal, or 0.
@@ -68,12 +68,12 @@ pub extern "C" fn timing_seal_blake2b(
     ciphertext: &mut [u8],
     tag: &mut [u8],
 ) -> u32
-    ensures answer { result ≡ answer_code (answered (seal_verdict 64 16 64 key.now nonce.now «data».now message.now tag_len ciphertext.old tag.old) (length message.now)) }
-    ensures ciphertext { ciphertext.new ≡ left_after (answered (seal_verdict 64 16 64 key.now nonce.now «data».now message.now tag_len ciphertext.old tag.old) (length message.now)) ciphertext.old (at_front (sealed 64 (blake2b key.now) nonce.now «data».now message.now tag_len).0 ciphertext.old) }
-    ensures tag { tag.new ≡ left_after (answered (seal_verdict 64 16 64 key.now nonce.now «data».now message.now tag_len ciphertext.old tag.old) (length message.now)) tag.old (at_front (sealed 64 (blake2b key.now) nonce.now «data».now message.now tag_len).1 tag.old) }
+    ensures answer { result ≡ code (answered (seal_verdict 64 16 64 key.now nonce.now «data».now message.now tag_len ciphertext.old tag.old) (length message.now)) }
+    ensures ciphertext { ciphertext.new ≡ left (answered (seal_verdict 64 16 64 key.now nonce.now «data».now message.now tag_len ciphertext.old tag.old) (length message.now)) ciphertext.old (at_front (sealed 64 (blake2b key.now) nonce.now «data».now message.now tag_len).0 ciphertext.old) }
+    ensures tag { tag.new ≡ left (answered (seal_verdict 64 16 64 key.now nonce.now «data».now message.now tag_len ciphertext.old tag.old) (length message.now)) tag.old (at_front (sealed 64 (blake2b key.now) nonce.now «data».now message.now tag_len).1 tag.old) }
 {
     let answer = sealing::seal::<Blake2b>(key, nonce, data, message, tag_len, ciphertext, tag);
-    refusal::answer_code(answer)
+    refusal::code(answer)
 }
 
 // Opening with kind 1, and the number of its refusal, or 0.
@@ -86,10 +86,10 @@ pub extern "C" fn timing_open_sha256(
     tag: &[u8],
     message: &mut [u8],
 ) -> u32
-    ensures answer { result ≡ answer_code (answered (open_verdict 32 16 32 key.now nonce.now «data».now ciphertext.now tag.now message.old (opened 32 (sha256 key.now) nonce.now «data».now ciphertext.now tag.now)) (length ciphertext.now)) }
+    ensures answer { result ≡ code (answered (open_verdict 32 16 32 key.now nonce.now «data».now ciphertext.now tag.now message.old (opened 32 (sha256 key.now) nonce.now «data».now ciphertext.now tag.now)) (length ciphertext.now)) }
     ensures message { message.new ≡ opened_place (answered (open_verdict 32 16 32 key.now nonce.now «data».now ciphertext.now tag.now message.old (opened 32 (sha256 key.now) nonce.now «data».now ciphertext.now tag.now)) (length ciphertext.now)) (deciphered 32 (sha256 key.now) nonce.now (length tag.now) ciphertext.now) message.old }
 {
-    refusal::answer_code(sealing::open::<Sha256>(key, nonce, data, ciphertext, tag, message))
+    refusal::code(sealing::open::<Sha256>(key, nonce, data, ciphertext, tag, message))
 }
 
 // Opening with kind 2, and the number of its refusal, or 0.
@@ -102,8 +102,8 @@ pub extern "C" fn timing_open_blake2b(
     tag: &[u8],
     message: &mut [u8],
 ) -> u32
-    ensures answer { result ≡ answer_code (answered (open_verdict 64 16 64 key.now nonce.now «data».now ciphertext.now tag.now message.old (opened 64 (blake2b key.now) nonce.now «data».now ciphertext.now tag.now)) (length ciphertext.now)) }
+    ensures answer { result ≡ code (answered (open_verdict 64 16 64 key.now nonce.now «data».now ciphertext.now tag.now message.old (opened 64 (blake2b key.now) nonce.now «data».now ciphertext.now tag.now)) (length ciphertext.now)) }
     ensures message { message.new ≡ opened_place (answered (open_verdict 64 16 64 key.now nonce.now «data».now ciphertext.now tag.now message.old (opened 64 (blake2b key.now) nonce.now «data».now ciphertext.now tag.now)) (length ciphertext.now)) (deciphered 64 (blake2b key.now) nonce.now (length tag.now) ciphertext.now) message.old }
 {
-    refusal::answer_code(sealing::open::<Blake2b>(key, nonce, data, ciphertext, tag, message))
+    refusal::code(sealing::open::<Blake2b>(key, nonce, data, ciphertext, tag, message))
 }

@@ -26,7 +26,7 @@ fn answered(letter: char, outcome: Result<u32, Refusal>) -> Answer
         },
         Err(refusal) => Answer {
             letter,
-            number: refusal.number(),
+            number: u32::from(refusal),
             value: 0,
         },
     }

@@ -2,7 +2,7 @@
 use Rattle.std.specs.Prelude.{ℕ, List, length, Err, Result}
 use Rattle.refusal.specs.declared.Refusal.{Refusal}
 use Rattle.refusal.specs.declared.Refusal.TheVariants.{KindMismatch}
-use Rattle.refusal.specs.Verdict.{answered, left_after, at_front}
+use Rattle.refusal.specs.Verdict.{answered, left, at_front}
 use Rattle.sealing.specs.Omd.{sealed, deciphered, opened}
 use Rattle.sealing.specs.Calls.{seal_verdict, open_verdict, opened_place}
 use Rattle.vectors.specs.OfKind.{of_kind}
@@ -19,11 +19,11 @@ seal_answer kind key nonce «data» message t ciphertext tag =
 -- What the two places hold after the answer r.
 abbrev pub ciphertext_after : LengthOrRefusal → (kind : ℕ) (key nonce «data» message : List ℕ) (t : ℕ) (place : List ℕ) → List ℕ
 ciphertext_after r kind key nonce «data» message t place =
-    of_kind kind (λ b shortest longest F. left_after r place (at_front (sealed b (F key) nonce «data» message t).0 place)) place
+    of_kind kind (λ b shortest longest F. left r place (at_front (sealed b (F key) nonce «data» message t).0 place)) place
 
 abbrev pub tag_after : LengthOrRefusal → (kind : ℕ) (key nonce «data» message : List ℕ) (t : ℕ) (place : List ℕ) → List ℕ
 tag_after r kind key nonce «data» message t place =
-    of_kind kind (λ b shortest longest F. left_after r place (at_front (sealed b (F key) nonce «data» message t).1 place)) place
+    of_kind kind (λ b shortest longest F. left r place (at_front (sealed b (F key) nonce «data» message t).1 place)) place
 
 -- Opening into a place for the message.
 abbrev pub open_answer : (kind : ℕ) (key nonce «data» ciphertext tag place : List ℕ) → LengthOrRefusal

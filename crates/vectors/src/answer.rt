@@ -40,7 +40,7 @@ fn in_numbers(answer: Result<usize, Refusal>) -> (u32, usize)
 {
     match answer {
         Ok(n) => (0, n),
-        Err(refusal) => (refusal.number(), 0),
+        Err(refusal) => (u32::from(refusal), 0),
     }
 }
 
@@ -71,7 +71,7 @@ fn push_compressed(
             push_hex(text, &place[0..n.min(64)])
         }
         Err(refusal) => {
-            let number = refusal.number();
+            let number = u32::from(refusal);
             text.push_str(format!(in heap; "compress {number} -")?.as_str())
         }
     }
@@ -106,7 +106,7 @@ fn answer_seal(heap: Global, request: &Seal) -> Result<String, AllocError> {
             Ok(text)
         }
         Err(refusal) => {
-            let number = refusal.number();
+            let number = u32::from(refusal);
             format!(in heap; "seal {number} - -")
         }
     }
@@ -139,7 +139,7 @@ fn answer_look(heap: Global, request: &Look) -> Result<String, AllocError> {
             Ok(text)
         }
         Err(refusal) => {
-            let number = refusal.number();
+            let number = u32::from(refusal);
             format!(in heap; "look {number} - - -")
         }
     }

@@ -12,9 +12,9 @@ fn compress_front<C: Compression>(
     message: &[u8],
     place: &mut [u8; 64],
 ) -> Result<usize, Refusal>
-    ensures { at_front result place.new ≡ block C.Compression.block C.Compression.shortest C.Compression.longest C.Compression.meaning key.now chaining.now message.now }
+    ensures { at_front result place.new ≡ block C.Compression.BLOCK_LEN C.Compression.SHORTEST_KEY C.Compression.LONGEST_KEY C.Compression.meaning key.now chaining.now message.now }
 {
-    let b = C::block_len();
+    let b = C::BLOCK_LEN;
     C::compress(key, chaining, message, &mut place[0..b])?;
     Ok(b)
 }
@@ -29,9 +29,9 @@ pub(crate) fn compressed(
 ) -> Result<usize, Refusal>
     ensures { at_front result place.new ≡ by_kind kind key.now chaining.now message.now }
 {
-    if kind == u32::from(Sha256::kind()) {
+    if kind == u32::from(Sha256::KIND) {
         compress_front::<Sha256>(key, chaining, message, place)
-    } else if kind == u32::from(Blake2b::kind()) {
+    } else if kind == u32::from(Blake2b::KIND) {
         compress_front::<Blake2b>(key, chaining, message, place)
     } else {
         Err(Refusal::KindMismatch)

@@ -20,9 +20,9 @@ pub(crate) fn sealed(
     ensures ciphertext { ciphertext.new ≡ ciphertext_after result kind key.now nonce.now «data».now message.now tag_len ciphertext.old }
     ensures tag { tag.new ≡ tag_after result kind key.now nonce.now «data».now message.now tag_len tag.old }
 {
-    if kind == u32::from(Sha256::kind()) {
+    if kind == u32::from(Sha256::KIND) {
         sealing::seal::<Sha256>(key, nonce, data, message, tag_len, ciphertext, tag)
-    } else if kind == u32::from(Blake2b::kind()) {
+    } else if kind == u32::from(Blake2b::KIND) {
         sealing::seal::<Blake2b>(key, nonce, data, message, tag_len, ciphertext, tag)
     } else {
         Err(Refusal::KindMismatch)
@@ -42,9 +42,9 @@ pub(crate) fn opened(
     ensures answer { result ≡ open_answer kind key.now nonce.now «data».now ciphertext.now tag.now place.old }
     ensures place { place.new ≡ message_after result kind key.now nonce.now ciphertext.now tag.now place.old }
 {
-    if kind == u32::from(Sha256::kind()) {
+    if kind == u32::from(Sha256::KIND) {
         sealing::open::<Sha256>(key, nonce, data, ciphertext, tag, place)
-    } else if kind == u32::from(Blake2b::kind()) {
+    } else if kind == u32::from(Blake2b::KIND) {
         sealing::open::<Blake2b>(key, nonce, data, ciphertext, tag, place)
     } else {
         Err(Refusal::KindMismatch)

@@ -23,7 +23,7 @@ seal_parts-requires g c = record {
 
 pub returns : goal.returns
 returns g c =
-    let b : ℕ = g.C.Compression.block in
+    let b : ℕ = g.C.Compression.BLOCK_LEN in
     let key : List ℕ = c.args.key.now in
     let F = g.C.Compression.meaning key in
     let header : List ℕ = c.args.header.now in
@@ -32,9 +32,9 @@ returns g c =
     let n : ℕ = 16 + length header in
     let fit = fits b g.met.C.Compression.blocked in
     let lawful = laws.lawful b F (omega arith) (λ H X. g.met.C.Compression.sized key H X) (λ H X. g.met.C.Compression.bytes key H X) in
-    let A : List ℕ = front g.C.Compression.kind c.args.label header (length M) in
+    let A : List ℕ = front g.C.Compression.KIND c.args.label header (length M) in
     let made : c.put_front.new.place ≡ at_front A (replicate 80 0) =
-    c.put_front.ensures ∙ ap (λ k. at_front (front k c.args.label header (length M)) (replicate 80 0)) c.kind.ensures in
+    c.put_front.ensures ∙ ap (λ k. at_front (front k c.args.label header (length M)) (replicate 80 0)) c.KIND.ensures in
     let is : take (n - 0) c.put_front.new.place ≡ A = front_of A (replicate 80 0) c.put_front.new.place n made (omega arith) in
     let whole : n - 0 ≡ length A = omega arith in
     let held : c.copy_from_slice.new.self ++ drop (n - 0) place ≡ at_front A place =
@@ -42,7 +42,7 @@ returns g c =
     record {
       length = omega arith;
       place =
-          placed g.C.Compression.kind b F fit.0 lawful c.args.label header M place _ _ _ n _ _ _ held (omega arith) (omega arith) (omega arith) (omega arith)
+          placed g.C.Compression.KIND b F fit.0 lawful c.args.label header M place _ _ _ n _ _ _ held (omega arith) (omega arith) (omega arith) (omega arith)
           (c.seal_parts.ensures.ciphertext ∙ ap (λ X. (sealed b F (take 12 (drop 1 X)) X M 16).0) is)
           (c.copy_from_slice-2.ensures.after ∙ c.seal_parts.ensures.tag ∙ ap (λ X. (sealed b F (take 12 (drop 1 X)) X M 16).1) is);
     }

@@ -9,7 +9,7 @@ use Rattle.image.proofs.build.seal_parts.Goals as goal
 
 pub returns : goal.returns
 returns g c =
-    let b : ℕ = g.C.Compression.block in
+    let b : ℕ = g.C.Compression.BLOCK_LEN in
     let key : List ℕ = c.args.key.now in
     let F = g.C.Compression.meaning key in
     let A : List ℕ = c.args.front.now in
@@ -24,8 +24,8 @@ returns g c =
     let c_long : length C ≡ length M = (lawful.lengths N A M 16 fit.0).0 in
     let t_long : length T ≡ 16 = (lawful.lengths N A M 16 fit.0).1 in
     let n_long : length N ≡ 12 = simp (length-take, length-drop) (omega arith) in
-    let accepted : seal_verdict b g.C.Compression.shortest g.C.Compression.longest key N A M 16 ciphertext tag ≡ Ok tt =
-    fitting b g.C.Compression.shortest g.C.Compression.longest key N A M (length ciphertext) (length tag) fit.0 c.requires.key n_long (omega arith) (omega arith) (omega arith) (omega arith) (omega arith) in
+    let accepted : seal_verdict b g.C.Compression.SHORTEST_KEY g.C.Compression.LONGEST_KEY key N A M 16 ciphertext tag ≡ Ok tt =
+    fitting b g.C.Compression.SHORTEST_KEY g.C.Compression.LONGEST_KEY key N A M (length ciphertext) (length tag) fit.0 c.requires.key n_long (omega arith) (omega arith) (omega arith) (omega arith) (omega arith) in
     record {
       ciphertext = filled_by _ _ (length M) C ciphertext _ c.seal_behind.ensures.answer accepted c.seal_behind.ensures.ciphertext (omega arith);
       tag = filled_by _ _ (length M) T tag _ c.seal_behind.ensures.answer accepted c.seal_behind.ensures.tag (omega arith);

@@ -8,7 +8,7 @@ use Rattle.image.proofs.open.open_exactly.Goals as goal
 
 pub returns : goal.returns
 returns g c =
-    let b : ℕ = g.C.Compression.block in
+    let b : ℕ = g.C.Compression.BLOCK_LEN in
     let key : List ℕ = c.args.key.now in
     let image : List ℕ = c.args.image.now in
     let fit = fits b g.met.C.Compression.blocked in
@@ -17,5 +17,5 @@ returns g c =
     record {
       answer = c.open_named.ensures.answer;
       place = c.open_named.ensures.place;
-      built = exactly g.C.Compression.kind b g.C.Compression.shortest g.C.Compression.longest g.C.Compression.meaning key image c.args.place.now _ _ fit.0 lawful bytes c.open_named.ensures.answer c.open_named.ensures.place;
+      built = exactly g.C.Compression.KIND b g.C.Compression.SHORTEST_KEY g.C.Compression.LONGEST_KEY g.C.Compression.meaning key image c.args.place.now _ _ fit.0 lawful bytes c.open_named.ensures.answer c.open_named.ensures.place;
     }

@@ -30,32 +30,32 @@ looked kind I r p ok is =
 
 pub returns-in_err-parts : goal.returns-in_err-parts
 returns-in_err-parts g c =
-    let kind : ℕ = g.C.Compression.kind in
+    let kind : ℕ = g.C.Compression.KIND in
     let I : List ℕ = c.args.image.now in
     let e : Refusal = c.in_err-parts.field-0.0 in
     let at : shown c.look.result ≡ answered (look_verdict kind I) (shown_in I) =
-    looked_at _ kind _ I c.look.result (c.new.ensures.kind ∙ c.from.ensures ∙ c.kind.ensures) c.new.ensures.bytes c.look.ensures.parts in
+    looked_at _ kind _ I c.look.result (c.new.ensures.kind ∙ c.from.ensures ∙ c.KIND.ensures) c.new.ensures.bytes c.look.ensures.parts in
     let refuses : look_verdict kind I ≡ Err e = shown_err (look_verdict kind I) (shown_in I) c.look.result e c.in_err-parts.was at in
-    let ends = look_refuses kind g.C.Compression.block g.C.Compression.shortest g.C.Compression.longest g.C.Compression.meaning c.args.key.now I c.args.place.now (sym c.key_tested.ensures ∙ c.in_ok-key_tested.was) e refuses in
+    let ends = look_refuses kind g.C.Compression.BLOCK_LEN g.C.Compression.SHORTEST_KEY g.C.Compression.LONGEST_KEY g.C.Compression.meaning c.args.key.now I c.args.place.now (sym c.key_tested.ensures ∙ c.in_ok-key_tested.was) e refuses in
     let is : c.from_residual-in_err-parts.result ≡ Err e = search rules in
     record { answer = is ∙ ends.answer; place = ends.place_is }
 
 pub returns-then-place-parts : goal.returns-then-place-parts
 returns-then-place-parts g c =
-    let kind : ℕ = g.C.Compression.kind in
+    let kind : ℕ = g.C.Compression.KIND in
     let I : List ℕ = c.args.image.now in
     let at : shown c.look.result ≡ answered (look_verdict kind I) (shown_in I) =
-    looked_at _ kind _ I c.look.result (c.new.ensures.kind ∙ c.from.ensures ∙ c.kind.ensures) c.new.ensures.bytes c.look.ensures.parts in
+    looked_at _ kind _ I c.look.result (c.new.ensures.kind ∙ c.from.ensures ∙ c.KIND.ensures) c.new.ensures.bytes c.look.ensures.parts in
     let l : Looked kind I c.in_ok-parts.parts = looked kind I c.look.result c.in_ok-parts.parts c.in_ok-parts.was at in
-    let ends = place_refuses kind g.C.Compression.block g.C.Compression.shortest g.C.Compression.longest g.C.Compression.meaning c.args.key.now I c.args.place.now (sym c.key_tested.ensures ∙ c.in_ok-key_tested.was) l.verdict (omega (arith, l.long, c.if-place-parts.true)) in
+    let ends = place_refuses kind g.C.Compression.BLOCK_LEN g.C.Compression.SHORTEST_KEY g.C.Compression.LONGEST_KEY g.C.Compression.meaning c.args.key.now I c.args.place.now (sym c.key_tested.ensures ∙ c.in_ok-key_tested.was) l.verdict (omega (arith, l.long, c.if-place-parts.true)) in
     record { answer = ends.answer; place = ends.place_is }
 
 pub open_parts-requires : goal.open_parts-requires
 open_parts-requires g c =
-    let kind : ℕ = g.C.Compression.kind in
+    let kind : ℕ = g.C.Compression.KIND in
     let I : List ℕ = c.args.image.now in
     let at : shown c.look.result ≡ answered (look_verdict kind I) (shown_in I) =
-    looked_at _ kind _ I c.look.result (c.new.ensures.kind ∙ c.from.ensures ∙ c.kind.ensures) c.new.ensures.bytes c.look.ensures.parts in
+    looked_at _ kind _ I c.look.result (c.new.ensures.kind ∙ c.from.ensures ∙ c.KIND.ensures) c.new.ensures.bytes c.look.ensures.parts in
     let l : Looked kind I c.in_ok-parts.parts = looked kind I c.look.result c.in_ok-parts.parts c.in_ok-parts.was at in
     record {
       key = sym c.key_tested.ensures ∙ c.in_ok-key_tested.was;
@@ -66,10 +66,10 @@ open_parts-requires g c =
 
 pub returns : goal.returns
 returns g c =
-    let kind : ℕ = g.C.Compression.kind in
+    let kind : ℕ = g.C.Compression.KIND in
     let I : List ℕ = c.args.image.now in
     let at : shown c.look.result ≡ answered (look_verdict kind I) (shown_in I) =
-    looked_at _ kind _ I c.look.result (c.new.ensures.kind ∙ c.from.ensures ∙ c.kind.ensures) c.new.ensures.bytes c.look.ensures.parts in
+    looked_at _ kind _ I c.look.result (c.new.ensures.kind ∙ c.from.ensures ∙ c.KIND.ensures) c.new.ensures.bytes c.look.ensures.parts in
     let l : Looked kind I c.in_ok-parts.parts = looked kind I c.look.result c.in_ok-parts.parts c.in_ok-parts.was at in
-    let ends = tag_decides kind g.C.Compression.block g.C.Compression.shortest g.C.Compression.longest g.C.Compression.meaning c.args.key.now I c.args.place.now (sym c.key_tested.ensures ∙ c.in_ok-key_tested.was) l.verdict (omega (arith, l.long, c.if-place-parts.false)) _ _ c.open_parts.ensures.answer c.open_parts.ensures.place in
+    let ends = tag_decides kind g.C.Compression.BLOCK_LEN g.C.Compression.SHORTEST_KEY g.C.Compression.LONGEST_KEY g.C.Compression.meaning c.args.key.now I c.args.place.now (sym c.key_tested.ensures ∙ c.in_ok-key_tested.was) l.verdict (omega (arith, l.long, c.if-place-parts.false)) _ _ c.open_parts.ensures.answer c.open_parts.ensures.place in
     record { answer = ends.answer; place = ends.place_is }

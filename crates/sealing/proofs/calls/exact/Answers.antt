@@ -6,8 +6,8 @@ use Rattle.sealing.proofs.calls.exact.Goals as goal
 
 pub returns : goal.returns
 returns g c place after r =
-    let b : ℕ = g.C.Compression.block in
+    let b : ℕ = g.C.Compression.BLOCK_LEN in
     let fit = fits b g.met.C.Compression.blocked in
     let key = c.args.key.now in
-    exactly b g.C.Compression.shortest g.C.Compression.longest g.C.Compression.meaning key c.args.nonce.now c.args.data.now c.args.ciphertext.now c.args.tag.now place r after
+    exactly b g.C.Compression.SHORTEST_KEY g.C.Compression.LONGEST_KEY g.C.Compression.meaning key c.args.nonce.now c.args.data.now c.args.ciphertext.now c.args.tag.now place r after
     (laws.lawful b (g.C.Compression.meaning key) (omega arith) (λ H M. g.met.C.Compression.sized key H M) (λ H M. g.met.C.Compression.bytes key H M))

@@ -5,7 +5,7 @@ use Rattle.sealing.proofs.calls.lawful.Goals as goal
 
 pub returns : goal.returns
 returns g c =
-    let b : ℕ = g.C.Compression.block in
+    let b : ℕ = g.C.Compression.BLOCK_LEN in
     let fit = fits b g.met.C.Compression.blocked in
     let key = c.args.key.now in
     laws.lawful b (g.C.Compression.meaning key) (omega arith) (λ H M. g.met.C.Compression.sized key H M) (λ H M. g.met.C.Compression.bytes key H M)

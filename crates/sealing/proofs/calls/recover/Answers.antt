@@ -21,8 +21,8 @@ written_over xs ys place e = ap (λ zs. xs ++ zs) (drop_at ys (drop (length ys) 
 
 pub crossed_and_tagged-requires : goal.crossed_and_tagged-requires
 crossed_and_tagged-requires g c =
-    let fit = fits g.C.Compression.block g.met.C.Compression.blocked in
-    let f = fitting g.C.Compression.block g.C.Compression.shortest g.C.Compression.longest c.args.key.now c.args.nonce.now c.args.data.now c.args.ciphertext.now (length c.args.tag.now) _ _ c.requires in
+    let fit = fits g.C.Compression.BLOCK_LEN g.met.C.Compression.blocked in
+    let f = fitting g.C.Compression.BLOCK_LEN g.C.Compression.SHORTEST_KEY g.C.Compression.LONGEST_KEY c.args.key.now c.args.nonce.now c.args.data.now c.args.ciphertext.now (length c.args.tag.now) _ _ c.requires in
     record {
       key = (f.key_low, f.key_high);
       lengths = (omega arith, (f.data_low, (f.data_high, f.text_high)));
@@ -31,13 +31,13 @@ crossed_and_tagged-requires g c =
 
 pub slice_bounds-same-end : goal.slice_bounds-same-end
 slice_bounds-same-end g c =
-    let fit = fits g.C.Compression.block g.met.C.Compression.blocked in
-    let f = fitting g.C.Compression.block g.C.Compression.shortest g.C.Compression.longest c.args.key.now c.args.nonce.now c.args.data.now c.args.ciphertext.now (length c.args.tag.now) _ _ c.requires in
+    let fit = fits g.C.Compression.BLOCK_LEN g.met.C.Compression.blocked in
+    let f = fitting g.C.Compression.BLOCK_LEN g.C.Compression.SHORTEST_KEY g.C.Compression.LONGEST_KEY c.args.key.now c.args.nonce.now c.args.data.now c.args.ciphertext.now (length c.args.tag.now) _ _ c.requires in
     search (rules, places)
 
 pub returns : goal.returns
 returns g c =
-    let b : ℕ = g.C.Compression.block in
+    let b : ℕ = g.C.Compression.BLOCK_LEN in
     let key : List ℕ = c.args.key.now in
     let F = g.C.Compression.meaning key in
     let N : List ℕ = c.args.nonce.now in
@@ -47,7 +47,7 @@ returns g c =
     let t : ℕ = length T in
     let n : ℕ = length C in
     let fit = fits b g.met.C.Compression.blocked in
-    let f = fitting b g.C.Compression.shortest g.C.Compression.longest key N c.args.data.now C t _ _ c.requires in
+    let f = fitting b g.C.Compression.SHORTEST_KEY g.C.Compression.LONGEST_KEY key N c.args.data.now C t _ _ c.requires in
     let A : List ℕ = c.args.data.now in
     let text : List ℕ = c.crossed_and_tagged.new.output in
     let made : List ℕ = c.crossed_and_tagged.new.tag in

@@ -12,15 +12,15 @@ cut : (n b : ℕ) → n ≡ b → (xs : List ℕ) → take n xs ≡ take b xs
 cut n b e xs = ap (λ k. take k xs) e
 
 pub slice_bounds-twice-end : goal.slice_bounds-twice-end
-slice_bounds-twice-end g c = let fit = fits g.C.Compression.block g.met.C.Compression.blocked in search (rules, places)
+slice_bounds-twice-end g c = let fit = fits g.C.Compression.BLOCK_LEN g.met.C.Compression.blocked in search (rules, places)
 
 pub returns : goal.returns
 unfolding L⋆
 returns g c =
-    let b : ℕ = g.C.Compression.block in
+    let b : ℕ = g.C.Compression.BLOCK_LEN in
     let F = g.C.Compression.meaning c.args.key.now in
-    let n : ℕ = c.block_len-b.result in
-    let e : n ≡ b = c.block_len-b.ensures in
+    let n : ℕ = c.BLOCK_LEN-b.result in
+    let e : n ≡ b = c.BLOCK_LEN-b.ensures in
     let fit = fits b g.met.C.Compression.blocked in
     let zero = zeros_front n b e fit.1 in
     let first : List ℕ = c.compress.new.place in

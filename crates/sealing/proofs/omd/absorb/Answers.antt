@@ -5,16 +5,16 @@ use Rattle.sealing.proofs.Buffers.{fits}
 use Rattle.sealing.proofs.omd.absorb.Goals as goal
 
 pub slice_bounds-value-end-2 : goal.slice_bounds-value-end-2
-slice_bounds-value-end-2 g c = let fit = fits g.C.Compression.block g.met.C.Compression.blocked in search (rules, places)
+slice_bounds-value-end-2 g c = let fit = fits g.C.Compression.BLOCK_LEN g.met.C.Compression.blocked in search (rules, places)
 
 pub slice_bounds-add-end : goal.slice_bounds-add-end
-slice_bounds-add-end g c = let fit = fits g.C.Compression.block g.met.C.Compression.blocked in search (rules, places)
+slice_bounds-add-end g c = let fit = fits g.C.Compression.BLOCK_LEN g.met.C.Compression.blocked in search (rules, places)
 
 pub returns : goal.returns
 returns g c =
-    let b : ℕ = g.C.Compression.block in
-    let n : ℕ = c.block_len-b.result in
-    let e : n ≡ b = c.block_len-b.ensures in
+    let b : ℕ = g.C.Compression.BLOCK_LEN in
+    let n : ℕ = c.BLOCK_LEN-b.result in
+    let e : n ≡ b = c.BLOCK_LEN-b.ensures in
     let fit = fits b g.met.C.Compression.blocked in
     let first : List ℕ = c.copy_from_slice.new.self in
     let value : List ℕ = c.fold.new.chaining in

@@ -6,13 +6,13 @@ use Rattle.sealing.proofs.Buffers.{fits, front}
 use Rattle.sealing.proofs.omd.absorb_short.Goals as goal
 
 pub slice_bounds-absorb-end : goal.slice_bounds-absorb-end
-slice_bounds-absorb-end g c = let fit = fits g.C.Compression.block g.met.C.Compression.blocked in search (rules, places)
+slice_bounds-absorb-end g c = let fit = fits g.C.Compression.BLOCK_LEN g.met.C.Compression.blocked in search (rules, places)
 
 pub returns : goal.returns
 returns g c =
-    let b : ℕ = g.C.Compression.block in
-    let n : ℕ = c.block_len-b.result in
-    let e : n ≡ b = c.block_len-b.ensures in
+    let b : ℕ = g.C.Compression.BLOCK_LEN in
+    let n : ℕ = c.BLOCK_LEN-b.result in
+    let e : n ≡ b = c.BLOCK_LEN-b.ensures in
     let m : ℕ = c.data_block_len-n.result in
     let fit = fits b g.met.C.Compression.blocked in
     let block : List ℕ = c.pad.new.place in

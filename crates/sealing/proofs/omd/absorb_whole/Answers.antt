@@ -15,24 +15,24 @@ loop-i-init g c = (c.requires.places.1.0, c.requires.places.1.1)
 
 pub add_row-requires : goal.add_row-requires
 add_row-requires g c =
-    let fit = fits g.C.Compression.block g.met.C.Compression.blocked in
+    let fit = fits g.C.Compression.BLOCK_LEN g.met.C.Compression.blocked in
     let n : ℕ = c.data_block_len-b.result in
-    let long : length c.args.mask.now ≡ g.C.Compression.block = ap length c.requires.places.1.0 ∙ length-replicate g.C.Compression.block 0 in
+    let long : length c.args.mask.now ≡ g.C.Compression.BLOCK_LEN = ap length c.requires.places.1.0 ∙ length-replicate g.C.Compression.BLOCK_LEN 0 in
     let small = small_number c.loop-i.i n (length c.args.data.now) c.loop-i-test.true (omega arith) c.requires.places.0 in
     (omega arith, (omega arith, omega arith))
 
 pub absorb-requires : goal.absorb-requires
 absorb-requires g c =
-    let fit = fits g.C.Compression.block g.met.C.Compression.blocked in
+    let fit = fits g.C.Compression.BLOCK_LEN g.met.C.Compression.blocked in
     let n : ℕ = c.data_block_len-b.result in
-    let long : length c.args.mask.now ≡ g.C.Compression.block = ap length c.requires.places.1.0 ∙ length-replicate g.C.Compression.block 0 in
-    let long' : length c.args.to.now ≡ g.C.Compression.block = ap length c.requires.places.1.1 ∙ length-replicate g.C.Compression.block 0 in
+    let long : length c.args.mask.now ≡ g.C.Compression.BLOCK_LEN = ap length c.requires.places.1.0 ∙ length-replicate g.C.Compression.BLOCK_LEN 0 in
+    let long' : length c.args.to.now ≡ g.C.Compression.BLOCK_LEN = ap length c.requires.places.1.1 ∙ length-replicate g.C.Compression.BLOCK_LEN 0 in
     let within = whole_block c.loop-i.i n (length c.args.data.now) c.loop-i-test.true in
     record { key = c.requires.key; blocks = (search (rules, places), (omega arith, omega arith)) }
 
 pub loop-i-preserved : goal.loop-i-preserved
 loop-i-preserved g c =
-    let b : ℕ = g.C.Compression.block in
+    let b : ℕ = g.C.Compression.BLOCK_LEN in
     let F = g.C.Compression.meaning c.args.key.now in
     let A : List ℕ = c.args.data.now in
     let i : ℕ = c.loop-i.i in

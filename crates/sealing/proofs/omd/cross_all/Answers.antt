@@ -10,7 +10,7 @@ use Rattle.sealing.proofs.omd.cross_all.Goals as goal
 pub loop-i-init : goal.loop-i-init
 unfolding chained chaining_at Δ
 loop-i-init g c =
-    let b : ℕ = g.C.Compression.block in
+    let b : ℕ = g.C.Compression.BLOCK_LEN in
     let F = g.C.Compression.meaning c.args.key.now in
     let rows = c.args.masks.now.rows in
     let first = c.start.ensures in
@@ -23,15 +23,15 @@ loop-i-init g c =
 pub loop-i-preserved : goal.loop-i-preserved
 unfolding chaining_at
 loop-i-preserved g c =
-    let b : ℕ = g.C.Compression.block in
+    let b : ℕ = g.C.Compression.BLOCK_LEN in
     let F = g.C.Compression.meaning c.args.key.now in
     let way = c.args.way in
     let N : List ℕ = c.args.nonce.now in
     let t : ℕ = c.args.tag_len in
     let X : List ℕ = c.args.input.now in
     let i : ℕ = c.loop-i.i in
-    let n : ℕ = c.block_len-b.result in
-    let e : n ≡ b = c.block_len-b.ensures in
+    let n : ℕ = c.BLOCK_LEN-b.result in
+    let e : n ≡ b = c.BLOCK_LEN-b.ensures in
     let inv = c.loop-i.invariant in
     let last : i < (length X - 1) / b = subst (λ m. i < (length X - 1) / m) e (subst (λ m. i < m / n) c.saturating_sub.ensures c.loop-i-test.true) in
     let within : i * b + b ≤ length X - 1 = whole_block i b (length X - 1) last in

@@ -5,7 +5,7 @@ use Rattle.sealing.proofs.omd.cross_all.Given as goal
 
 abbrev pub invariant-loop-i : goal.invariant-loop-i
 invariant-loop-i g l =
-    let b = g.C.Compression.block in
+    let b = g.C.Compression.BLOCK_LEN in
     let F = g.C.Compression.meaning l.key in
     (l.output ≡ chained (crossed b F l.way l.nonce l.tag_len l.input) l.i ++ drop (l.i * b) l.initial.output)
     × (l.mask ≡ Δ b F (Δ₀ b F l.nonce) (l.i + 1))

@@ -12,13 +12,13 @@ pub returns-in-Sealing : goal.returns-in-Sealing
 returns-in-Sealing g c =
     let h : List ℕ = c.args.chaining.now in
     let x : List ℕ = c.args.input.now in
-    let E = ended g.C.Compression.block (g.C.Compression.meaning c.args.key.now) c.args.mask.now h in
+    let E = ended g.C.Compression.BLOCK_LEN (g.C.Compression.meaning c.args.key.now) c.args.mask.now h in
     record { text = written h x _ c.sum.ensures; end = c.end.ensures ∙ ap (λ w. E (plain w h x)) (sym c.in-Sealing.is) }
 
 pub returns-in-Opening : goal.returns-in-Opening
 returns-in-Opening g c =
     let h : List ℕ = c.args.chaining.now in
     let x : List ℕ = c.args.input.now in
-    let E = ended g.C.Compression.block (g.C.Compression.meaning c.args.key.now) c.args.mask.now h in
+    let E = ended g.C.Compression.BLOCK_LEN (g.C.Compression.meaning c.args.key.now) c.args.mask.now h in
     let text = written h x _ c.sum.ensures in
     record { text = text; end = c.end-in-Opening.ensures ∙ ap E text ∙ ap (λ w. E (plain w h x)) (sym c.in-Opening.is) }

@@ -7,19 +7,19 @@ use Rattle.sealing.proofs.Steps.{last_part, put_last}
 use Rattle.sealing.proofs.omd.cross_text.Goals as goal
 
 pub slice_bounds-mask-end-2 : goal.slice_bounds-mask-end-2
-slice_bounds-mask-end-2 g c = let fit = fits g.C.Compression.block g.met.C.Compression.blocked in search (rules, places)
+slice_bounds-mask-end-2 g c = let fit = fits g.C.Compression.BLOCK_LEN g.met.C.Compression.blocked in search (rules, places)
 
 pub returns : goal.returns
 unfolding other_text
 returns g c =
-    let b : ℕ = g.C.Compression.block in
+    let b : ℕ = g.C.Compression.BLOCK_LEN in
     let F = g.C.Compression.meaning c.args.key.now in
     let way = c.args.way in
     let N : List ℕ = c.args.nonce.now in
     let t : ℕ = c.args.tag_len in
     let X : List ℕ = c.args.input.now in
-    let n : ℕ = c.block_len-b.result in
-    let e : n ≡ b = c.block_len-b.ensures in
+    let n : ℕ = c.BLOCK_LEN-b.result in
+    let e : n ≡ b = c.BLOCK_LEN-b.ensures in
     let fit = fits b g.met.C.Compression.blocked in
     let last : ℕ = last_block b X in
     let a : ℕ = c.saturating_sub.result / n * n in

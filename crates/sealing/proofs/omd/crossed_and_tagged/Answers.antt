@@ -8,10 +8,10 @@ use Rattle.sealing.proofs.omd.crossed_and_tagged.Goals as goal
 
 pub hash-requires : goal.hash-requires
 hash-requires g c =
-    let b : ℕ = g.C.Compression.block in
+    let b : ℕ = g.C.Compression.BLOCK_LEN in
     let A : List ℕ = c.args.data.now in
-    let n : ℕ = c.block_len-b.result in
-    let e : n ≡ b = c.block_len-b.ensures in
+    let n : ℕ = c.BLOCK_LEN-b.result in
+    let e : n ≡ b = c.BLOCK_LEN-b.ensures in
     let fit = fits b g.met.C.Compression.blocked in
     let same : length A / c.data_block_len.result ≡ length A / (2 * b) = ap (λ k. length A / k) c.data_block_len.ensures in
     let upto : length A / (2 * b) ≤ c.max.result = omega (arith, same, c.max.ensures) in
@@ -22,19 +22,19 @@ hash-requires g c =
     }
 
 pub slice_bounds-end-end-2 : goal.slice_bounds-end-end-2
-slice_bounds-end-end-2 g c = let fit = fits g.C.Compression.block g.met.C.Compression.blocked in search (rules, places)
+slice_bounds-end-end-2 g c = let fit = fits g.C.Compression.BLOCK_LEN g.met.C.Compression.blocked in search (rules, places)
 
 pub slice_bounds-add-end : goal.slice_bounds-add-end
-slice_bounds-add-end g c = let fit = fits g.C.Compression.block g.met.C.Compression.blocked in search (rules, places)
+slice_bounds-add-end g c = let fit = fits g.C.Compression.BLOCK_LEN g.met.C.Compression.blocked in search (rules, places)
 
 pub slice_bounds-copy_from_slice-end : goal.slice_bounds-copy_from_slice-end
-slice_bounds-copy_from_slice-end g c = let fit = fits g.C.Compression.block g.met.C.Compression.blocked in search (rules, places)
+slice_bounds-copy_from_slice-end g c = let fit = fits g.C.Compression.BLOCK_LEN g.met.C.Compression.blocked in search (rules, places)
 
 pub returns : goal.returns
 unfolding Tag
 returns g c =
-    let b : ℕ = g.C.Compression.block in
-    let n : ℕ = c.block_len-b.result in
+    let b : ℕ = g.C.Compression.BLOCK_LEN in
+    let n : ℕ = c.BLOCK_LEN-b.result in
     let t : ℕ = length c.args.tag.now in
     let fit = fits b g.met.C.Compression.blocked in
     let end : List ℕ = c.cross_text.new.chaining in

@@ -7,15 +7,15 @@ use Rattle.sealing.proofs.Buffers.{fits}
 use Rattle.sealing.proofs.omd.hash.Goals as goal
 
 pub slice_bounds-mask-end-then-rest-gt0 : goal.slice_bounds-mask-end-then-rest-gt0
-slice_bounds-mask-end-then-rest-gt0 g c = let fit = fits g.C.Compression.block g.met.C.Compression.blocked in search (rules, places)
+slice_bounds-mask-end-then-rest-gt0 g c = let fit = fits g.C.Compression.BLOCK_LEN g.met.C.Compression.blocked in search (rules, places)
 
 pub returns-then-rest-gt0 : goal.returns-then-rest-gt0
 unfolding HASH
 returns-then-rest-gt0 g c =
-    let b : ℕ = g.C.Compression.block in
+    let b : ℕ = g.C.Compression.BLOCK_LEN in
     let F = g.C.Compression.meaning c.args.key.now in
     let A : List ℕ = c.args.data.now in
-    let n : ℕ = c.block_len-b.result in
+    let n : ℕ = c.BLOCK_LEN-b.result in
     let fit = fits b g.met.C.Compression.blocked in
     let d : ℕ = 2 * b in
     let k : ℕ = c.data_block_len.result in
@@ -36,9 +36,9 @@ returns-then-rest-gt0 g c =
 pub returns-else-rest-gt0 : goal.returns-else-rest-gt0
 unfolding HASH
 returns-else-rest-gt0 g c =
-    let b : ℕ = g.C.Compression.block in
+    let b : ℕ = g.C.Compression.BLOCK_LEN in
     let A : List ℕ = c.args.data.now in
-    let n : ℕ = c.block_len-b.result in
+    let n : ℕ = c.BLOCK_LEN-b.result in
     let fit = fits b g.met.C.Compression.blocked in
     let none : length A % (2 * b) ≡ 0 = ap (λ m. length A % m) (sym c.data_block_len.ensures) ∙ omega arith in
     c.absorb_whole.ensures.sum ∙ ap (summed b (absorbed b (g.C.Compression.meaning c.args.key.now) A)) (sym (whole_count (2 * b) A (omega arith) c.requires.places.0 none))

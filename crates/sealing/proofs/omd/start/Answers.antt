@@ -6,14 +6,14 @@ use Rattle.sealing.proofs.Buffers.{fits, zeros_front}
 use Rattle.sealing.proofs.omd.start.Goals as goal
 
 pub slice_bounds-compress-end : goal.slice_bounds-compress-end
-slice_bounds-compress-end g c = let fit = fits g.C.Compression.block g.met.C.Compression.blocked in search (rules, places)
+slice_bounds-compress-end g c = let fit = fits g.C.Compression.BLOCK_LEN g.met.C.Compression.blocked in search (rules, places)
 
 pub returns : goal.returns
 unfolding Δ₀
 returns g c =
-    let b : ℕ = g.C.Compression.block in
-    let n : ℕ = c.block_len-b.result in
-    let e : n ≡ b = c.block_len-b.ensures in
+    let b : ℕ = g.C.Compression.BLOCK_LEN in
+    let n : ℕ = c.BLOCK_LEN-b.result in
+    let e : n ≡ b = c.BLOCK_LEN-b.ensures in
     let fit = fits b g.met.C.Compression.blocked in
     let block : List ℕ = c.pad.new.place in
     let long : length block ≡ n - 0 = search (rules, places) in

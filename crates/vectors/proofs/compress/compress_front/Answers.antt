@@ -8,8 +8,8 @@ returns g c =
     let C = g.C.Compression in
     let laws = g.met.C.Compression in
     let call = c.in_ok-compress.ensures in
-    let b = c.block_len-b.result in
-    let small : C.block ≤ 64 = elim laws.blocked [ inl e ↦ omega arith | inr e ↦ omega arith ] in
+    let b = c.BLOCK_LEN-b.result in
+    let small : C.BLOCK_LEN ≤ 64 = elim laws.blocked [ inl e ↦ omega arith | inr e ↦ omega arith ] in
     let fits : b ≤ length c.args.place.now = omega arith in
-    let same : b - 0 ≡ C.block = omega arith in
-    rw c.block_len-b.ensures (at_front_is C.block C.shortest C.longest C.meaning c.args.key.now c.args.chaining.now c.args.message.now _ c.compress.new.place _ (mid_len 0 b c.args.place.now fits ∙ same) (ap length call.after ∙ laws.sized _ _ _) call.verdict call.after)
+    let same : b - 0 ≡ C.BLOCK_LEN = omega arith in
+    rw c.BLOCK_LEN-b.ensures (at_front_is C.BLOCK_LEN C.SHORTEST_KEY C.LONGEST_KEY C.meaning c.args.key.now c.args.chaining.now c.args.message.now _ c.compress.new.place _ (mid_len 0 b c.args.place.now fits ∙ same) (ap length call.after ∙ laws.sized _ _ _) call.verdict call.after)
