@@ -1,7 +1,7 @@
 -- The blocks of the associated data, whole ones and a shorter last one. Assumes nothing.
-use Rattle.std.proofs.Common.{◌≡◌, ℕ, ◌+◌, ◌-◌, ◌*◌, ◌/◌, ◌%◌, ◌<◌, ◌≤◌, List, length, take, drop, sym, ap, ◌∙◌, inl, inr, mod-lt, add-mul, div-add-mod', add-one, arith, length-drop, length-take}
+use Rattle.std.proofs.Common.{◌≡◌, ℕ, ◌+◌, ◌-◌, ◌*◌, ◌/◌, ◌%◌, ◌<◌, ◌≤◌, List, ◌++◌, length, take, drop, sym, ap, ◌∙◌, inl, inr, mod-lt, add-mul, div-add-mod', add-one, arith, length-append, length-drop, length-take}
 use lib.Arith.{digits_div}
-use Rattle.std.proofs.lemmas.List.{take_all, take_rest}
+use Rattle.std.proofs.lemmas.List.{take_all, take_at, drop_at, drop-drop}
 use Rattle.std.proofs.lemmas.Bool.{cases_eq, cond-true, cond-false, eq-eqb, ne_eqb}
 use Rattle.sealing.specs.Strings.{◌⊕◌, zeros, padded, last_block, block_count, block, summed}
 use Rattle.sealing.specs.Omd.{L⋆, Δ, halves, absorbed}
@@ -40,12 +40,22 @@ module _ (d : ℕ) (A : List ℕ) (pos : 0 < d) where
       let low : length A % d - 1 < d = omega (arith, mod-lt (length A) pos) in
       ap (λ n. n / d) size ∙ digits_div q low
 
-  -- the part of the data that the code takes for its shorter last block
-  pub short_part : take (length A - (length A - length A % d)) (drop (length A - length A % d) A) ≡ block d A (length A / d)
+  -- what is left behind the whole blocks is the shorter last one
+  pub short_part : drop (length A - length A % d) A ≡ block d A (length A / d)
   short_part =
       let at : length A - length A % d ≡ length A / d * d = omega (arith, split) in
       let short : length (drop (length A / d * d) A) ≤ d = simp length-drop (omega (arith, split, mod-lt (length A) pos)) in
-      ap (λ k. take (length A - k) (drop k A)) at ∙ take_rest A (length A / d * d) ∙ sym (take_all d (drop (length A / d * d) A) short)
+      ap (λ k. drop k A) at ∙ sym (take_all d (drop (length A / d * d) A) short)
 
   pub short_block : length (block d A (length A / d)) < d
   short_block = simp (length-take, length-drop) (omega (arith, split, mod-lt (length A) pos))
+
+-- where a chunk x of d bytes is next, it is the next block
+pub next_block : (d : ℕ) (A : List ℕ) (i : ℕ) (rest rest' x : List ℕ) → i * d ≤ length A → rest ≡ drop (i * d) A → rest ≡ x ++ rest' → length x ≡ d → (x ≡ block d A i) × (rest' ≡ drop ((i + 1) * d) A) × ((i + 1) * d ≤ length A)
+next_block d A i rest rest' x h at cut size =
+    let next : i * d + d ≡ (i + 1) * d = omega (arith, add-mul i 1 d) in
+    let long : length A ≡ i * d + (d + length rest') = omega (arith, ap length (sym cut ∙ at), length-append x rest', length-drop (i * d) A) in (
+      sym (take_at x rest' d size) ∙ ap (take d) (sym cut ∙ at),
+      sym (drop_at x rest' d size) ∙ ap (drop d) (sym cut ∙ at) ∙ drop-drop d (i * d) A ∙ ap (λ k. drop k A) next,
+      omega arith,
+    )

@@ -33,13 +33,6 @@ module _ (n : ℕ) (xs : List ℕ) where
   last_reaches : 0 < n → length xs ≤ (length xs - 1) / n * n + n
   last_reaches pos = omega (arith, lt-div-mul-add {a = length xs - 1} pos)
 
-  pub last_block_is : 0 < n → block n xs (last_block n xs) ≡ drop (last_block n xs * n) xs
-  last_block_is pos =
-      take_all n (drop (last_block n xs * n) xs) (simp length-drop (omega (arith, last_reaches pos)))
-
-  pub length_block : (i : ℕ) → i < last_block n xs → length (block n xs i) ≡ n
-  length_block i h = simp (length-take, length-drop) (omega (arith, blocks_within (suc i) h, suc-mul i n))
-
   pub length_block_le : (i : ℕ) → length (block n xs i) ≤ n
   length_block_le i = simp length-take (omega arith)
 

@@ -4,7 +4,6 @@ pub mod Blocks
 pub mod Buffers
 pub mod Doubled
 pub mod Exact
-pub mod Fitting
 pub mod Laws
 pub mod Numbers
 pub mod Rows

@@ -1,5 +1,5 @@
 -- One block more, as a loop writes it. Assumes nothing.
-use Rattle.std.proofs.Common.{◌≡◌, ℕ, ◌+◌, ◌-◌, ◌*◌, ◌/◌, ◌<◌, ◌≤◌, List, [], ◌++◌, length, take, drop, sym, ap, ◌∙◌, ap₂, le_trans, mul-le-mul_right, suc-mul, div-lt_iff_lt-mul, add-mul, mul-le-mul_left, div-mul-le_self, arith, length-append, length-drop}
+use Rattle.std.proofs.Common.{◌≡◌, ℕ, ◌+◌, ◌-◌, ◌*◌, ◌/◌, ◌<◌, ◌≤◌, List, [], ◌++◌, length, take, drop, sym, ap, ◌∙◌, ap₂, le_trans, mul-le-mul_right, suc-mul, div-lt_iff_lt-mul, add-mul, div-mul-le_self, arith, length-append, length-drop}
 use borrow.Rule.Slice.PartMut.{put_mid}
 use Rattle.std.proofs.lemmas.List.{append_assoc, append-nil, take_at, take_all, take_rest, drop_at, drop_all, drop-drop}
 use Rattle.sealing.specs.Strings.{last_block, block, chained}
@@ -8,10 +8,6 @@ use Rattle.sealing.proofs.Blocks.{chained_more}
 -- a block that is not the last lies within the text
 pub whole_block : (i b n : ℕ) → i < n / b → i * b + b ≤ n
 whole_block i b n h = le_trans (rw suc-mul at (mul-le-mul_right b h)) (div-mul-le_self n b)
-
--- and blocks of 32 bytes or more have small numbers
-pub small_number : (i d n : ℕ) → i < n / d → 32 ≤ d → n ≤ 65535 → i + 1 < 4096
-small_number i d n h low high = omega (arith, whole_block i d n h, mul-le-mul_left i low)
 
 -- the part of a text that the code takes for a block: n is the code's number for the b bytes of a block
 pub part_block : (n b i : ℕ) (xs : List ℕ) → n ≡ b → take (i * n + n - i * n) (drop (i * n) xs) ≡ block b xs i

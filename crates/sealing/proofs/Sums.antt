@@ -1,9 +1,9 @@
 -- Sums of strings: their lengths, their bytes, and that a string added twice falls out. Assumes nothing.
-use Rattle.std.proofs.Common.{◌≡◌, ℕ, zero, suc, ◌<◌, ◌≤◌, List, [], ◌∷◌, length, get_or, take, sym, refl, ap, ◌∙◌, ap₂, arith}
+use Rattle.std.proofs.Common.{◌≡◌, ℕ, zero, suc, ◌<◌, ◌≤◌, List, [], ◌∷◌, ◌++◌, length, get_or, take, drop, set, sym, refl, ap, ◌∙◌, ap₂, arith}
 use mathlib.Core.List.{zip_with}
 use lib.Bits.{bit_xor, xor_assoc, xor_self, xor_zero_l, xor_lt}
 use Rattle.std.specs.Int.Digits.{AllBelowBase}
-use Rattle.std.proofs.lemmas.List.{ext_get_or}
+use Rattle.std.proofs.lemmas.List.{append-nil, take_all, drop_all}
 use Rattle.sealing.specs.Strings.{◌⊕◌}
 
 -- as long as the second, where the first is no shorter
@@ -13,13 +13,6 @@ length_⊕ [] [] h = refl
 length_⊕ [] (y ∷ ys) h = absurd (omega arith)
 length_⊕ (x ∷ xs) [] h = refl
 length_⊕ (x ∷ xs) (y ∷ ys) h = ap suc (length_⊕ xs ys (omega arith))
-
-pub get_or_⊕ : (xs ys : List ℕ) (i : ℕ) → i < length xs → i < length ys → get_or (xs ⊕ ys) i 0 ≡ bit_xor (get_or xs i 0) (get_or ys i 0)
-unfolding zip_with
-get_or_⊕ [] ys i h k = absurd (omega arith)
-get_or_⊕ (x ∷ xs) [] i h k = absurd (omega arith)
-get_or_⊕ (x ∷ xs) (y ∷ ys) zero h k = refl
-get_or_⊕ (x ∷ xs) (y ∷ ys) (suc i) h k = get_or_⊕ xs ys i (omega arith) (omega arith)
 
 xor_twice : (x y : ℕ) → bit_xor x (bit_xor x y) ≡ y
 xor_twice x y = sym (xor_assoc x x y) ∙ ap (λ z. bit_xor z y) (xor_self x) ∙ xor_zero_l y
@@ -45,8 +38,26 @@ under_⊕ [] ys h k = tt
 under_⊕ (x ∷ xs) [] h k = tt
 under_⊕ (x ∷ xs) (y ∷ ys) h k = (xor_lt 8 x y h.0 k.0, under_⊕ xs ys h.1 k.1)
 
--- a string is the sum of two as long as itself, if each of its bytes is
-pub sum_is : (xs ys zs : List ℕ) → length zs ≡ length xs → length xs ≡ length ys → ((k : ℕ) → k < length zs → get_or zs k 0 ≡ bit_xor (get_or xs k 0) (get_or ys k 0)) → zs ≡ xs ⊕ ys
-sum_is xs ys zs long same each =
-    let size : length zs ≡ length (xs ⊕ ys) = sym (length_⊕ xs ys (omega arith) ∙ omega arith) in
-    ext_get_or 0 zs (xs ⊕ ys) size (λ k h. each k h ∙ sym (get_or_⊕ xs ys k (omega arith) (omega arith)))
+-- a string whose first i bytes are those of a sum
+abbrev pub partly_sum : (place xs ys : List ℕ) → ℕ → List ℕ
+partly_sum place xs ys i = (take i xs ⊕ take i ys) ++ drop i place
+
+-- one byte more, and all
+pub sum_more : (place xs ys : List ℕ) (i : ℕ) → i < length place → length place ≡ length xs → length place ≡ length ys → set (partly_sum place xs ys i) i (bit_xor (get_or xs i 0) (get_or ys i 0)) ≡ partly_sum place xs ys (suc i)
+unfolding zip_with
+sum_more [] xs ys i h e f = absurd (omega arith)
+sum_more (z ∷ place) [] ys i h e f = absurd (omega arith)
+sum_more (z ∷ place) (x ∷ xs) [] i h e f = absurd (omega arith)
+sum_more (z ∷ place) (x ∷ xs) (y ∷ ys) zero h e f = refl
+sum_more (z ∷ place) (x ∷ xs) (y ∷ ys) (suc i) h e f = ap (◌∷◌ (bit_xor x y)) (sum_more place xs ys i (omega arith) (omega arith) (omega arith))
+
+pub sum_all : (place xs ys : List ℕ) → length place ≡ length xs → length place ≡ length ys → partly_sum place xs ys (length place) ≡ xs ⊕ ys
+sum_all place xs ys e f = rw (take_all (length place) xs (omega arith), take_all (length place) ys (omega arith), drop_all (length place) place (omega arith)) (append-nil (xs ⊕ ys))
+
+-- the next byte of a string to which another is added
+pub next_byte : (xs ys : List ℕ) (i : ℕ) → i < length xs → length xs ≡ length ys → get_or (partly_sum xs xs ys i) i 0 ≡ get_or xs i 0
+unfolding zip_with
+next_byte [] ys i h e = absurd (omega arith)
+next_byte (x ∷ xs) [] i h e = absurd (omega arith)
+next_byte (x ∷ xs) (y ∷ ys) zero h e = refl
+next_byte (x ∷ xs) (y ∷ ys) (suc i) h e = next_byte xs ys i (omega arith) (omega arith)

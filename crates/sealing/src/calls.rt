@@ -8,8 +8,9 @@ ghost use Rattle.sealing.specs.Calls.{objections, seal_verdict, open_verdict, op
 ghost use Rattle.sealing.specs.Laws.{SealingIsLawful, OpensExactly};
 
 use crate::bytes::same;
-use crate::omd::{Way, crossed_and_tagged};
-use compression::Compression;
+use crate::key::Key;
+use crate::omd::Way;
+use compression::{Compression, key_tested};
 use refusal::Refusal;
 
 // the longest associated data, and the longest message
@@ -28,20 +29,18 @@ fn tested<C: Compression>(
 ) -> Result<(), Refusal>
     ensures { result ≡ judged (objections C.Compression.BLOCK_LEN C.Compression.SHORTEST_KEY C.Compression.LONGEST_KEY key.now nonce.now «data».now text.now tag_len room tag_room) }
 {
+    key_tested::<C>(key)?;
     let b = C::BLOCK_LEN;
-    if key.len() < C::SHORTEST_KEY || C::LONGEST_KEY < key.len() {
-        return Err(Refusal::KeyLength);
-    }
     if room < text.len() || tag_room < tag_len {
         return Err(Refusal::PlaceLength);
     }
-    if nonce.len() == 0 || b - 1 < nonce.len() {
+    if nonce.is_empty() || b - 1 < nonce.len() {
         return Err(Refusal::NonceLength);
     }
     if tag_len < 4 || b < tag_len {
         return Err(Refusal::TagLength);
     }
-    if data.len() == 0 || LONGEST_TEXT < data.len() || LONGEST_TEXT < text.len() {
+    if data.is_empty() || LONGEST_TEXT < data.len() || LONGEST_TEXT < text.len() {
         return Err(Refusal::TextLength);
     }
     Ok(())
@@ -61,15 +60,13 @@ fn seal_tested<C: Compression>(
     ensures ciphertext { ciphertext.new ≡ at_front (sealed C.Compression.BLOCK_LEN (C.Compression.meaning key.now) nonce.now «data».now message.now tag_len).0 ciphertext.old }
     ensures tag { tag.new ≡ at_front (sealed C.Compression.BLOCK_LEN (C.Compression.meaning key.now) nonce.now «data».now message.now tag_len).1 tag.old }
 {
-    let n = message.len();
-    crossed_and_tagged::<C>(
+    Key::<C>::new(key).crossed_and_tagged(
         Way::Sealing,
-        key,
         nonce,
         data,
         message,
-        &mut ciphertext[0..n],
-        &mut tag[0..tag_len],
+        &mut ciphertext[..message.len()],
+        &mut tag[..tag_len],
     );
 }
 
@@ -122,19 +119,17 @@ fn recover<C: Compression>(
     ensures size { length (deciphered C.Compression.BLOCK_LEN (C.Compression.meaning key.now) nonce.now (length tag.now) ciphertext.now) ≡ length ciphertext.now }
     ensures rest { at_front (zeros (length ciphertext.now)) message.new ≡ at_front (zeros (length ciphertext.now)) message.old }
 {
-    let n = ciphertext.len();
     let t = tag.len();
     let mut expected = [0u8; 64];
-    crossed_and_tagged::<C>(
+    Key::<C>::new(key).crossed_and_tagged(
         Way::Opening,
-        key,
         nonce,
         data,
         ciphertext,
-        &mut message[0..n],
-        &mut expected[0..t],
+        &mut message[..ciphertext.len()],
+        &mut expected[..t],
     );
-    same(&expected[0..t], tag)
+    same(&expected[..t], tag)
 }
 
 // Zeros at the front of a place.
@@ -142,15 +137,15 @@ fn clear(place: &mut [u8], n: usize)
     requires { n ≤ length place.old }
     ensures { place.new ≡ at_front (zeros n) place.old }
 {
-    for i in 0..n {
-        place[i] = 0;
-    }
+    place[..n].fill(0);
 }
 
 // Opening answers a message exactly when sealing it gives what was presented: a proof and no code.
 fn exact<C: Compression>(key: &[u8], nonce: &[u8], data: &[u8], ciphertext: &[u8], tag: &[u8])
     ensures { (place after : List ℕ) (r : Result ℕ Refusal) → r ≡ answered (open_verdict C.Compression.BLOCK_LEN C.Compression.SHORTEST_KEY C.Compression.LONGEST_KEY key.now nonce.now «data».now ciphertext.now tag.now place (opened C.Compression.BLOCK_LEN (C.Compression.meaning key.now) nonce.now «data».now ciphertext.now tag.now)) (length ciphertext.now) → after ≡ opened_place r (deciphered C.Compression.BLOCK_LEN (C.Compression.meaning key.now) nonce.now (length tag.now) ciphertext.now) place → OpensExactly C.Compression.BLOCK_LEN C.Compression.SHORTEST_KEY C.Compression.LONGEST_KEY C.Compression.meaning key.now nonce.now «data».now ciphertext.now tag.now place r after }
-{}
+{
+    lawful::<C>(key);
+}
 
 // Opens, as the definitions say.
 fn open_named<C: Compression>(

@@ -15,7 +15,8 @@ fn shifted(x: u8, next: u8) -> u8
     (x << 1) + (next >> 7)
 }
 
-// The whole string one bit to the left; the bit that falls out is lost.
+// The whole string one bit to the left; the bit that falls out is lost. By index, since each byte is written once the next is
+// read, and `windows` only reads.
 fn shift_left(s: &mut [u8])
     requires { 0 < length s.old }
     ensures { s.new ≡ shifted_left s.old }

@@ -4,6 +4,7 @@
 mod bytes;
 mod calls;
 mod doubling;
+mod key;
 mod masks;
 mod omd;
 

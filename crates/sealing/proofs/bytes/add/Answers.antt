@@ -1,18 +1,24 @@
-use Rattle.std.proofs.Common.{ℕ, ◌<◌, ◌≢◌, length, get_or, ap, arith, get_or-set_other, get_or-set_same, below_more}
+use mathlib.Core.List.{zip_with}
+use Rattle.std.proofs.Common.{◌≡◌, ℕ, ◌<◌, List, length, get_or, set, refl, add-one, ap, ap₂, ◌∙◌, arith}
 use lib.Bits.{bit_xor}
-use Rattle.sealing.proofs.Sums.{sum_is}
+use Rattle.sealing.proofs.Sums.{sum_more, sum_all, next_byte}
 use Rattle.sealing.proofs.bytes.add.Goals as goal
+
+pub loop-i-init : goal.loop-i-init
+unfolding zip_with
+loop-i-init c = refl
 
 pub loop-i-preserved : goal.loop-i-preserved
 loop-i-preserved c =
+    let xs : List ℕ = c.args.to.now in
+    let ys : List ℕ = c.args.x.now in
     let i : ℕ = c.loop-i.i in
     let inv = c.loop-i.invariant in
-    let at : i < length c.loop-i.to = omega arith in (
-      below_more _ _
-          (λ k h. let other : k ≢ i = omega arith in rw get_or-set_other (inv.0 k h))
-          (rw get_or-set_same (ap (λ y. bit_xor y (get_or c.args.x.now i 0)) (inv.1 i (omega arith)))),
-      λ k h. let other : k ≢ i = omega arith in rw get_or-set_other (inv.1 k (omega arith)),
-    )
+    let h : i < length xs = omega arith in
+    rw add-one (ap₂ (λ zs x. set zs i (bit_xor x (get_or ys i 0))) inv (ap (λ zs. get_or zs i 0) inv ∙ next_byte xs ys i h c.requires)
+    ∙ sum_more xs xs ys i h refl c.requires)
 
 pub returns : goal.returns
-returns c = sum_is c.args.to.now c.args.x.now c.loop-i.to (omega arith) (omega arith) (λ k h. c.loop-i.invariant.0 k (omega arith))
+returns c =
+    let all : c.loop-i.i ≡ length c.args.to.now = omega arith in
+    simp (c.loop-i.invariant, all) (sum_all _ _ _ refl c.requires)

@@ -1,6 +1,18 @@
-use Rattle.std.proofs.Common.{arith}
-use Rattle.sealing.proofs.Sums.{sum_is}
+use mathlib.Core.List.{zip_with}
+use Rattle.std.proofs.Common.{◌≡◌, ◌<◌, length, refl, add-one, arith}
+use Rattle.sealing.proofs.Sums.{sum_more, sum_all}
 use Rattle.sealing.proofs.bytes.sum.Goals as goal
 
+pub loop-i-init : goal.loop-i-init
+unfolding zip_with
+loop-i-init c = refl
+
+pub loop-i-preserved : goal.loop-i-preserved
+loop-i-preserved c =
+    let h : c.loop-i.i < length c.args.place.now = omega arith in
+    simp (c.loop-i.invariant, add-one) (sum_more _ _ _ _ h c.requires.0 c.requires.1)
+
 pub returns : goal.returns
-returns c = sum_is c.args.x.now c.args.y.now c.loop-i.place (omega arith) (omega arith) (λ k h. c.loop-i.invariant k (omega arith))
+returns c =
+    let all : c.loop-i.i ≡ length c.args.place.now = omega arith in
+    simp (c.loop-i.invariant, all) (sum_all _ _ _ c.requires.0 c.requires.1)

@@ -1,11 +1,12 @@
-use Rattle.std.proofs.Common.{ℕ, arith}
+use Rattle.std.proofs.Common.{arith}
 use Rattle.sealing.proofs.Buffers.{fits}
 use Rattle.sealing.proofs.Laws as laws
 use Rattle.sealing.proofs.calls.lawful.Goals as goal
 
 pub returns : goal.returns
 returns g c =
-    let b : ℕ = g.C.Compression.BLOCK_LEN in
-    let fit = fits b g.met.C.Compression.blocked in
+    let C = g.C.Compression in
+    let met = g.met.C.Compression in
+    let fit = fits C.BLOCK_LEN met.blocked in
     let key = c.args.key.now in
-    laws.lawful b (g.C.Compression.meaning key) (omega arith) (λ H M. g.met.C.Compression.sized key H M) (λ H M. g.met.C.Compression.bytes key H M)
+    laws.lawful C.BLOCK_LEN (C.meaning key) (omega arith) (met.sized key) (met.bytes key)

@@ -7,7 +7,7 @@ abbrev pub before : ℕ → List ℕ → List ℕ
 before zero xs = xs
 before (suc i) xs = doublings i xs
 
-abbrev pub invariant-loop-i : goal.invariant-loop-i
-invariant-loop-i l =
-    (length l.row ≡ 64) × (length l.rows ≡ 12) × (take l.b l.row ≡ before l.i (take l.b l.twice))
-    × ((k : ℕ) → k < l.i → take l.b (get_or l.rows k []) ≡ doublings k (take l.b l.twice))
+abbrev pub invariant-loop-row : goal.invariant-loop-row
+invariant-loop-row l =
+    (length l.last ≡ 64) × (take l.b l.last ≡ before l.row-index (take l.b l.twice))
+    × ((k : ℕ) → k < l.row-index → take l.b (get_or l.rows k []) ≡ doublings k (take l.b l.twice))
