@@ -1,5 +1,7 @@
--- Blocks of a padded message: one filled byte by byte, and one taken apart as key and message block. Assumes nothing.
-use Rattle.std.proofs.Common.{◌≡◌, ℕ, ◌+◌, ◌-◌, ◌<◌, ◌≤◌, List, ◌++◌, length, get_or, take, drop, replicate, sym, ap, ◌∙◌, arith}
+-- Blocks of a padded message: one made by calls of a closure, and one taken apart as key and message block. Assumes nothing.
+use Rattle.std.proofs.Common.{◌≡◌, ℕ, zero, suc, ◌+◌, ◌-◌, ◌<◌, ◌≤◌, List, ◌++◌, length, get_or, take, drop, replicate, sym, ap, ◌∙◌, subst, arith}
+use denote.Param.Members.{Mut, Called}
+use Rattle.std.specs.Array.{IsFromFnResult, IsFromFnResultFrom}
 use Rattle.std.proofs.lemmas.List.FromFn.{fill_by_all}
 use Rattle.std.proofs.lemmas.List.{length-take-le, take-append-drop}
 use Rattle.compression.proofs.WordBytes.{cut}
@@ -12,6 +14,14 @@ split_block b x fits =
     let full : b - length (take b x) ≡ 0 = omega (arith, length-take-le b x fits) in
     ap (λ n. take b x ++ (replicate n 0 ++ drop b x)) full ∙ take-append-drop b x
 
--- a block of w bytes that are those of p from j on
-pub filled : (w j : ℕ) (p block : List ℕ) → length block ≡ w → j + w ≤ length p → ((k : ℕ) → k < w → get_or block k 0 ≡ get_or p (j + k) 0) → block ≡ take w (drop j p)
-filled w j p block long fits each = fill_by_all (λ k. get_or p (j + k) 0) block w 0 long each ∙ sym (cut w j p fits)
+-- where each call gives the byte of p that is j further on, the block is that part of p
+module _ {F : Type 0} (g : Mut F (ℕ × Unit {0}) ℕ) (f : F) (p : List ℕ) (j : ℕ) (gives : (i y : ℕ) (q : F) → Called g f (i, tt) y q → (y ≡ get_or p (j + i) 0) × (q ≡ f)) where
+  each : (ys : List ℕ) (i n : ℕ) → IsFromFnResultFrom g f ys i n → (k m : ℕ) → m ≡ i + k → k < n → get_or ys m 0 ≡ get_or p (j + m) 0
+  each ys i zero _ k m at h = absurd (omega arith)
+  each ys i (suc n) (q, y, element, call, _) zero m at h = let same : m ≡ i = omega arith in rw same (element.1 0 ∙ (gives i y q call).0)
+  each ys i (suc n) (q, y, _, call, rest) (suc k) m at h =
+      each ys (i + 1) n (subst (λ (x : F). IsFromFnResultFrom g x ys (i + 1) n) (gives i y q call).1 rest) k m (omega arith) (omega arith)
+
+  pub filled : (w : ℕ) (block : List ℕ) → IsFromFnResult g f block w → j + w ≤ length p → block ≡ take w (drop j p)
+  filled w block is fits =
+      fill_by_all (λ k. get_or p (j + k) 0) block w 0 is.long (λ k h. each block 0 w is.each k k (omega arith) h) ∙ sym (cut w j p fits)

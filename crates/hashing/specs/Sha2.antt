@@ -13,10 +13,14 @@ zeros n = (119 - n % 64) % 64
 unfoldable pub padded : List ℕ → List ℕ
 padded m = m ++ ((0x80 ∷ replicate (zeros (length m)) 0) ++ to_be 8 (length m * 8 % 2 ^ 64))
 
--- 6.2.2: the hash value after the first n blocks of 64 bytes
+-- 5.2.1: the block i, of 64 bytes
+abbrev pub block : List ℕ → ℕ → List ℕ
+block p i = take 64 (drop (64 * i) p)
+
+-- 6.2.2: the hash value after the first n blocks
 unfoldable pub hash_after : ℕ → List ℕ → List ℕ
 hash_after zero p = flat_map (to_be 4) H0
-hash_after (suc n) p = hashed (hash_after n p) (take 64 (drop (64 * n) p))
+hash_after (suc n) p = hashed (hash_after n p) (block p n)
 
 -- the digest
 abbrev pub sha256 : List ℕ → List ℕ

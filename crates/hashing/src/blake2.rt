@@ -14,10 +14,11 @@ const H0: [u8; 64] = [
 ];
 
 // The byte k of the padded message.
+#[tactic(auto, unfolding(crate::specs::Blake2::padded))]
 fn padded_byte(message: &[u8], k: usize) -> u8
     ensures { result ≡ slice_index (padded message.now) k }
 {
-    if k < message.len() { message[k] } else { 0 }
+    message.get(k).copied().unwrap_or(0)
 }
 
 // The block i of the padded message.
@@ -25,14 +26,11 @@ fn padded_block(message: &[u8], i: usize) -> [u8; 128]
     requires { 128 * i + 128 ≤ length (padded message.now) }
     ensures { result ≡ block_of (padded message.now) i }
 {
-    let mut block = [0u8; 128];
-    for j in 0..128 {
-        block[j] = padded_byte(message, 128 * i + j);
-    }
-    block
+    std::array::from_fn(|j| padded_byte(message, 128 * i + j))
 }
 
 // The number of the last block of the padded message.
+#[tactic(auto, using(crate::proofs::Blake2Padding::padded_length))]
 fn last_block(message: &[u8]) -> usize
     ensures value { result ≡ length (padded message.now) / 128 - 1 }
     ensures within { 128 * result + 128 ≤ length (padded message.now) }
@@ -41,36 +39,31 @@ fn last_block(message: &[u8]) -> usize
 }
 
 // One block more.
-fn absorb(h: &mut [u8; 64], block: &[u8], t: u128, last: bool)
-    requires { length block.now ≡ 128 }
-    ensures { h.new ≡ compressed h.old block.now t last }
+fn absorb(h: &[u8; 64], block: &[u8; 128], t: u128, last: bool) -> [u8; 64]
+    ensures { result ≡ compressed h.now block.now t last }
 {
     let mut next = [0u8; 64];
-    let _ = blake2b_f(h, block, t, last, &mut next);
-    *h = next;
+    blake2b_f(h, block, t, last, &mut next).unwrap();
+    next
 }
 
-// The state after the block `last`, the last one, of the padded message.
+// The state after the block `last`, the last one, of the padded message. The loop counts block numbers, as the padded message
+// stands nowhere in memory; `as` widens them, as no `From` takes a `usize` to a `u128`.
+#[tactic(auto, unfolding(crate::specs::Blake2::state_after, crate::specs::Blake2::final_state))]
 fn hash_blocks(message: &[u8], last: usize) -> [u8; 64]
     requires { 128 * last + 128 ≤ length (padded message.now) }
     ensures { result ≡ final_state last (length message.now) (padded message.now) }
 {
     let mut h = H0;
     for i in 0..last {
-        absorb(
-            &mut h,
-            &padded_block(message, i),
-            128 * (i as u128 + 1),
-            false,
-        );
+        h = absorb(&h, &padded_block(message, i), 128 * (i as u128 + 1), false);
     }
     absorb(
-        &mut h,
+        &h,
         &padded_block(message, last),
         message.len() as u128,
         true,
-    );
-    h
+    )
 }
 
 // The digest of a message.

@@ -1,7 +1,7 @@
 // SHA-256 (FIPS 180-4) over the compression of kind 1.
-ghost use Rattle.std.specs.Prelude.{◌≡◌, ◌+◌, ◌*◌, ◌/◌, ◌<◌, ◌≤◌, length, take, drop, slice_index};
+ghost use Rattle.std.specs.Prelude.{◌≡◌, ◌+◌, ◌*◌, ◌/◌, ◌<◌, ◌≤◌, length, slice_index};
 ghost use Rattle.compression.specs.Sha256.{hashed};
-ghost use Rattle.hashing.specs.Sha2.{padded, hash_after, sha256};
+ghost use Rattle.hashing.specs.Sha2.{padded, block as block_of, hash_after, sha256};
 
 use compression::{Compression, Sha256};
 
@@ -11,7 +11,8 @@ const H0: [u8; 32] = [
     0x51, 0x0e, 0x52, 0x7f, 0x9b, 0x05, 0x68, 0x8c, 0x1f, 0x83, 0xd9, 0xab, 0x5b, 0xe0, 0xcd, 0x19,
 ];
 
-// The byte k of the padded message.
+// The byte k of the padded message. `as` widens its length, as no `From` takes a `usize` to a `u64`.
+#[tactic(auto, using(crate::proofs::Sha2Padding::in_length), unfolding(crate::specs::Sha2::padded))]
 fn padded_byte(message: &[u8], k: usize) -> u8
     requires { k < length (padded message.now) }
     ensures { result ≡ slice_index (padded message.now) k }
@@ -32,42 +33,38 @@ fn padded_byte(message: &[u8], k: usize) -> u8
 // The block i of the padded message.
 fn padded_block(message: &[u8], i: usize) -> [u8; 64]
     requires { 64 * i + 64 ≤ length (padded message.now) }
-    ensures { result ≡ take 64 (drop (64 * i) (padded message.now)) }
+    ensures { result ≡ block_of (padded message.now) i }
 {
-    let mut block = [0u8; 64];
-    for j in 0..64 {
-        block[j] = padded_byte(message, 64 * i + j);
-    }
-    block
+    std::array::from_fn(|j| padded_byte(message, 64 * i + j))
 }
 
 // The blocks of the padded message.
+#[tactic(auto, using(crate::proofs::Sha2Padding::padded_length))]
 fn block_count(message: &[u8]) -> usize
     ensures { result ≡ length (padded message.now) / 64 }
 {
-    let n = message.len();
-    n / 64 + if n % 64 < 56 { 1 } else { 2 }
+    (message.len() + 9).div_ceil(64)
 }
 
 // One block more. A whole block is a key of 32 bytes and a message block, so it is never refused.
-fn absorb(h: &mut [u8; 32], block: &[u8])
-    requires { length block.now ≡ 64 }
-    ensures { h.new ≡ hashed h.old block.now }
+fn absorb(h: &[u8; 32], block: &[u8; 64]) -> [u8; 32]
+    ensures { result ≡ hashed h.now block.now }
 {
     let (key, message) = block.split_at(32);
     let mut next = [0u8; 32];
-    let _ = Sha256::compress(key, h, message, &mut next);
-    *h = next;
+    Sha256::compress(key, h, message, &mut next).unwrap();
+    next
 }
 
-// The hash value after the first blocks of the padded message.
+// The hash value after the first blocks of the padded message, which stands nowhere in memory.
+#[tactic(auto, unfolding(crate::specs::Sha2::hash_after))]
 fn hash_blocks(message: &[u8], blocks: usize) -> [u8; 32]
     requires { 64 * blocks ≤ length (padded message.now) }
     ensures { result ≡ hash_after blocks (padded message.now) }
 {
     let mut h = H0;
     for i in 0..blocks {
-        absorb(&mut h, &padded_block(message, i));
+        h = absorb(&h, &padded_block(message, i));
     }
     h
 }

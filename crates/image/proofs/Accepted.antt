@@ -24,14 +24,13 @@ accepted kind I ok = record {
 }
 
 -- a list cut in four
+next_cut : (I : List ℕ) (a h : ℕ) → take h (drop a I) ++ drop (a + h) I ≡ drop a I
+next_cut I a h = ap (λ x. take h (drop a I) ++ x) (sym (drop-drop h a I)) ∙ take-append-drop h (drop a I)
+
 cut_in_four : (I : List ℕ) (a h w t : ℕ) → length I ≡ a + h + w + t → take a I ++ (take h (drop a I) ++ (take w (drop (a + h) I) ++ take t (drop (a + h + w) I))) ≡ I
 cut_in_four I a h w t long =
-    let tag : take t (drop (a + h + w) I) ≡ drop (a + h + w) I = take_all t (drop (a + h + w) I) (simp length-drop (omega arith)) in
-    let third : take w (drop (a + h) I) ++ take t (drop (a + h + w) I) ≡ drop (a + h) I =
-    ap (λ x. take w (drop (a + h) I) ++ x) (tag ∙ sym (drop-drop w (a + h) I)) ∙ take-append-drop w (drop (a + h) I) in
-    let second : take h (drop a I) ++ (take w (drop (a + h) I) ++ take t (drop (a + h + w) I)) ≡ drop a I =
-    ap (λ x. take h (drop a I) ++ x) (third ∙ sym (drop-drop h a I)) ∙ take-append-drop h (drop a I) in
-    ap (λ x. take a I ++ x) second ∙ take-append-drop a I
+    let rest : take t (drop (a + h + w) I) ≡ drop (a + h + w) I = take_all t (drop (a + h + w) I) (simp length-drop (omega arith)) in
+    rw rest (rw (next_cut I (a + h) w) (rw (next_cut I a h) (take-append-drop a I)))
 
 pub parts_are_the_image : (kind : ℕ) (I : List ℕ) → Accepted kind I → take fixed_bytes I ++ (header_of I ++ (ciphertext_of I ++ tag_of I)) ≡ I
 parts_are_the_image kind I is = cut_in_four I fixed_bytes (header_length I) (message_length I) 16 (omega arith)

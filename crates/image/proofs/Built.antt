@@ -1,7 +1,6 @@
 -- An image that was built is read again. Assumes nothing.
-use Rattle.std.proofs.Common.{◌≡◌, ℕ, ◌+◌, ◌^◌, ◌<◌, ◌≤◌, true, false, List, ◌++◌, length, Some, sym, ap, ◌∙◌, ap₂, arith}
-use borrow.Rule.Slice.PartMut.{put_mid}
-use Rattle.std.proofs.lemmas.List.{append_assoc, length-append}
+use Rattle.std.proofs.Common.{◌≡◌, ℕ, ◌+◌, ◌^◌, ◌<◌, ◌≤◌, true, false, List, ◌++◌, length, take, drop, Some, sym, ap, ◌∙◌, ap₂, arith}
+use Rattle.std.proofs.lemmas.List.{take_at}
 use Rattle.std.proofs.lemmas.Bool.Decides.{nat_tests}
 use Rattle.refusal.specs.Verdict.{at_front}
 use Rattle.sealing.specs.Omd.{sealed, opened}
@@ -12,7 +11,7 @@ use Rattle.image.specs.Look.{known, unlawful, wrong_length}
 use Rattle.image.specs.Open.{opened_image}
 use Rattle.image.specs.Laws.{BuiltIsRead}
 use Rattle.image.proofs.Fields.{Apart, apart, made, label_back}
-use Rattle.image.proofs.Written.{written_next}
+use Rattle.image.proofs.Written.{joined}
 
 -- Where the values of F have b bytes, and a tag of 16 fits.
 module _ (kind b : ℕ) (F : List ℕ → List ℕ → List ℕ) (wide : 16 ≤ b) (lawful : SealingIsLawful b F) (l : Label) (header message : List ℕ) where
@@ -64,13 +63,13 @@ module _ (kind b : ℕ) (F : List ℕ → List ℕ → List ℕ) (wide : 16 ≤ 
       let numbers : unlawful (label_of I) ≡ false = ap unlawful shows ∙ fine in
       record { looked_at = grind (arith, nat_tests); shows_label = shows; shows_header = is.header_is; opens = image_opens }
 
-  -- the image, written to a place part by part
-  pub placed : (place held ct tag : List ℕ) (n m k t : ℕ) → held ≡ at_front A place → n ≡ 16 + length header → m ≡ n + length message → k ≡ length message → t ≡ 16 → ct ≡ C → tag ≡ T → put_mid m t (put_mid n k held ct) tag ≡ at_front (image kind b F l header message) place
+  -- The image, written to a place: its front, and behind it the ciphertext and the tag.
+  pub placed : (place p f ct tag : List ℕ) → p ≡ at_front A place → f ≡ take (16 + length header) p → ct ≡ at_front (sealed b F (nonce l) f message 16).0 (take (length message) (drop (16 + length header) p)) → tag ≡ at_front (sealed b F (nonce l) f message 16).1 (drop (length message) (drop (16 + length header) p)) → 32 + length header + length message ≤ length place → f ++ (ct ++ tag) ≡ at_front (image kind b F l header message) place
   unfolding image
-  placed place held ct tag n m k t fronted n_is m_is k_is t_is ct_is tag_is =
-      let a_long : length A ≡ n = omega arith in
-      let ct_long : length ct ≡ length message = ap length ct_is ∙ c_long in
-      let tag_long : length tag ≡ 16 = ap length tag_is ∙ t_long in
-      let both : length (A ++ ct) ≡ m = length-append A ct ∙ omega arith in
-      written_next (A ++ ct) tag place (put_mid n k held ct) m t (written_next A ct place held n k fronted a_long (omega arith)) both (omega arith)
-      ∙ ap₂ (λ x y. at_front ((A ++ x) ++ y) place) ct_is tag_is ∙ ap (λ x. at_front x place) (append_assoc A C T)
+  placed place p f ct tag p_is f_is ct_is tag_is fits =
+      let n : ℕ = 16 + length header in
+      let f_whole : f ≡ A = f_is ∙ ap (take n) p_is ∙ take_at A _ n (omega arith) in
+      let rest : List ℕ = drop n p in
+      let ct_at : ct ≡ at_front C (take (length message) rest) = ct_is ∙ ap (λ D. at_front (sealed b F (nonce l) D message 16).0 (take (length message) rest)) f_whole in
+      let tag_at : tag ≡ at_front T (drop (length message) rest) = tag_is ∙ ap (λ D. at_front (sealed b F (nonce l) D message 16).1 (drop (length message) rest)) f_whole in
+      ap (λ x. x ++ (ct ++ tag)) f_is ∙ joined A C T place p ct tag n (length message) (omega arith) c_long (omega arith) p_is ct_at tag_at

@@ -1,5 +1,5 @@
 -- Opening answers a message exactly where building it gives the image. Assumes nothing.
-use Rattle.std.proofs.Common.{◌≡◌, ℕ, ◌≤◌, Bool, true, false, not, ltb, List, [], ◌∷◌, ◌++◌, length, take, drop, is_some, Some, Ok, Err, Result, sym, refl, ap, ◌∙◌, ap₂, arith}
+use Rattle.std.proofs.Common.{◌≡◌, ℕ, ◌≤◌, Bool, true, not, ltb, List, [], ◌∷◌, ◌++◌, length, take, drop, is_some, Some, Ok, Err, Result, sym, refl, ap, ◌∙◌, ap₂, arith}
 use Rattle.std.specs.Int.Digits.{AllBelowBase}
 use Rattle.std.proofs.lemmas.List.{take_at}
 use Rattle.refusal.specs.declared.Refusal.{Refusal}
@@ -12,7 +12,8 @@ use Rattle.sealing.proofs.Laws.{opened_is}
 use Rattle.image.specs.declared.label.Label.{Label}
 use Rattle.image.specs.Image.{nonce, front, image, label_of, message_length, header_of, ciphertext_of, tag_of}
 use Rattle.image.specs.Look.{look_verdict}
-use Rattle.image.specs.Open.{key_verdict, nonce_of, data_of, opened_image, message_in, open_verdict, open_answer, open_place}
+use Rattle.compression.specs.Compress.{key_verdict}
+use Rattle.image.specs.Open.{nonce_of, data_of, opened_image, message_in, open_verdict, open_answer, open_place}
 use Rattle.image.specs.Laws.{OpensWhatWasBuilt}
 use Rattle.image.proofs.Accepted.{Accepted, accepted}
 use Rattle.image.proofs.Built.{c_long, image_apart, image_opens}
@@ -21,16 +22,14 @@ use Rattle.image.proofs.Opened.{past_place}
 
 pub answered_ok : (v : Verdict) (n m : ℕ) → answered v n ≡ Ok m → (v ≡ Ok tt) × (n ≡ m)
 answered_ok (Ok _) n m h = (refl, cc)
-answered_ok (Err r) n m h = let z : ◌≡◌ {A = ℕ} 0 1 = cc in absurd (omega arith)
+answered_ok (Err r) n m h = cc
 
 pub then_ok : (v w : Verdict) → then v w ≡ Ok tt → (v ≡ Ok tt) × (w ≡ Ok tt)
 then_ok (Ok _) w h = (refl, h)
-then_ok (Err r) w h = let z : ◌≡◌ {A = ℕ} 0 1 = cc in absurd (omega arith)
+then_ok (Err r) w h = cc
 
 judged_ok : (a b : Bool) → judged ((a, PlaceLength) ∷ (not b, TagMismatch) ∷ []) ≡ Ok tt → b ≡ true
-judged_ok a true h = refl
-judged_ok true false h = let z : ◌≡◌ {A = ℕ} 0 1 = cc in absurd (omega arith)
-judged_ok false false h = let z : ◌≡◌ {A = ℕ} 0 1 = cc in absurd (omega arith)
+judged_ok a b h = grind arith
 
 module _ (kind b : ℕ) (F : List ℕ → List ℕ → List ℕ) (I : List ℕ) (wide : 16 ≤ b) (lawful : SealingIsLawful b F) (is : Accepted kind I) where
   -- the message that an image opens to

@@ -50,7 +50,7 @@ apart kind l header C T t_long =
     let at_tag : drop (16 + length header + length C) I ≡ T =
     sym (drop-drop (length C) (16 + length header) I) ∙ ap (drop (length C)) at_ciphertext ∙ drop_at C T (length C) refl in
     record {
-      long = let e : length (header ++ (C ++ T)) ≡ length header + (length C + 16) = simp length-append (omega arith) in omega arith;
+      long = simp length-append (omega arith);
       kind_is = refl;
       header_long = refl;
       message_long = refl;

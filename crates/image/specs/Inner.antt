@@ -1,6 +1,6 @@
 -- What the functions inside this crate ask of one another; no public contract cites it. Assumes nothing.
 use Rattle.std.specs.Prelude.{◌≡◌, ℕ, ◌+◌, ◌≤◌, List, length, Ok}
-use Rattle.image.specs.Open.{key_verdict}
+use Rattle.compression.specs.Compress.{key_verdict}
 
 -- The key is taken, header and message are within their limits, and the place holds the image.
 pub record Buildable (shortest longest : ℕ) (key header message place : List ℕ) : Type 0 where

@@ -5,7 +5,8 @@ use Rattle.sealing.specs.Laws.{Answers}
 use Rattle.image.specs.declared.label.Label.{Label}
 use Rattle.image.specs.Image.{longest_header, longest_message, fixed_bytes, image, label_of, header_of, ciphertext_of, tag_of}
 use Rattle.image.specs.Look.{known, unlawful, look_verdict}
-use Rattle.image.specs.Open.{key_verdict, opened_image}
+use Rattle.compression.specs.Compress.{key_verdict}
+use Rattle.image.specs.Open.{opened_image}
 
 -- The parts of an image that a look accepts lie behind one another, and end where the image ends.
 abbrev pub PartsAreTheImage : (kind : ℕ) (I : List ℕ) → Type 0

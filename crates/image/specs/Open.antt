@@ -1,18 +1,15 @@
 -- What building and opening a card image answer, and what they leave in memory. Assumes nothing.
 use Rattle.std.specs.Prelude.{ℕ, ◌+◌, cond, not, ◌||◌, List, [], ◌∷◌, length, take, drop, is_some, Option, Result, ◌==◌, nat_lt}
 use Rattle.refusal.specs.declared.Refusal.{Refusal}
-use Rattle.refusal.specs.declared.Refusal.TheVariants.{KeyLength, RecordLength, ImageNumber, PlaceLength, TagMismatch}
+use Rattle.refusal.specs.declared.Refusal.TheVariants.{RecordLength, ImageNumber, PlaceLength, TagMismatch}
 use Rattle.refusal.specs.Verdict.{Verdict, judged, then, answered}
+use Rattle.compression.specs.Compress.{key_verdict}
 use Rattle.compression.specs.Keyed.{sha256, blake2b}
 use Rattle.sealing.specs.Omd.{opened, deciphered}
 use Rattle.sealing.specs.Calls.{opened_place}
 use Rattle.image.specs.declared.label.Label.{Label}
 use Rattle.image.specs.Image.{longest_header, longest_message, fixed_bytes, tag_bytes, header_length, message_length, ciphertext_of, tag_of}
 use Rattle.image.specs.Look.{unlawful, look_verdict}
-
--- The key has a length that the compression takes.
-abbrev pub key_verdict : (shortest longest : ℕ) (key : List ℕ) → Verdict
-key_verdict shortest longest key = judged ((nat_lt (length key) shortest || nat_lt longest (length key), KeyLength) ∷ [])
 
 -- The verdict on building the image of a label, a header and a message into a place.
 abbrev pub build_verdict : (shortest longest : ℕ) (key : List ℕ) → Label → (header message place : List ℕ) → Verdict

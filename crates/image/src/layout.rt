@@ -22,8 +22,6 @@ pub(crate) const LONGEST_HEADER: usize = 64;
 
 pub(crate) const LONGEST_MESSAGE: usize = 96;
 
-pub(crate) const LONGEST_FRONT: usize = 80;
-
 pub(crate) const SHORTEST_IMAGE: usize = 32;
 
 pub(crate) const LONGEST_IMAGE: usize = 192;

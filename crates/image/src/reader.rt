@@ -1,20 +1,19 @@
 // A reader that takes a card image apart.
 ghost use Rattle.std.specs.Prelude.{◌≡◌, ◌+◌, ◌≤◌, false, length, Ok};
 ghost use Rattle.refusal.specs.Verdict.{answered};
-ghost use Rattle.image.specs.Image.{number_at, label_of};
-ghost use Rattle.image.specs.Look.{known, wrong_length, look_verdict, shown_in, shown_parts, shown};
+ghost use Rattle.image.specs.Look.{wrong_length, look_verdict, shown_in, shown_parts, shown};
 ghost use Rattle.image.specs.Laws.{PartsAreTheImage};
 
-use crate::label::{Label, unlawful};
+use crate::label::Label;
 use crate::layout::{
-    BLOCK_AT, CODE_AT, HEADER_AT, HEADER_LEN_AT, KIND_AT, LONGEST_HEADER, LONGEST_IMAGE,
-    LONGEST_MESSAGE, MESSAGE_LEN_AT, SHORTEST_IMAGE, SITE_AT, STATION_AT, TAG_LEN,
+    HEADER_AT, HEADER_LEN_AT, KIND_AT, LONGEST_HEADER, LONGEST_IMAGE, LONGEST_MESSAGE,
+    MESSAGE_LEN_AT, SHORTEST_IMAGE, TAG_LEN,
 };
-use compression::{Blake2b, Compression, Sha256};
+use compression::Kind;
 use refusal::Refusal;
 
 // The parts of an image behind its fixed bytes, each with its place in the image.
-#[derive(Clone, Copy)]
+#[derive(Clone, Copy, Debug, PartialEq, Eq)]
 pub struct Parts<'a> {
     pub header_at: usize,
     pub header: &'a [u8],
@@ -22,13 +21,6 @@ pub struct Parts<'a> {
     pub ciphertext: &'a [u8],
     pub tag_at: usize,
     pub tag: &'a [u8],
-}
-
-// There is a compression of the kind. The numbers are asked of the compressions.
-fn known(kind: u32) -> bool
-    ensures { result ≡ known kind }
-{
-    kind == u32::from(Sha256::KIND) || kind == u32::from(Blake2b::KIND)
 }
 
 // The lengths in the image do not add up.
@@ -39,30 +31,9 @@ fn wrong_length(image: &[u8]) -> bool
     if n < SHORTEST_IMAGE || LONGEST_IMAGE < n {
         return true;
     }
-    let h = image[HEADER_LEN_AT] as usize;
-    let w = image[MESSAGE_LEN_AT] as usize;
+    let h = usize::from(image[HEADER_LEN_AT]);
+    let w = usize::from(image[MESSAGE_LEN_AT]);
     LONGEST_HEADER < h || LONGEST_MESSAGE < w || n != SHORTEST_IMAGE + h + w
-}
-
-// The number in four bytes, big-endian.
-fn number_at(at: usize, image: &[u8]) -> u32
-    requires { at + 4 ≤ length image.now }
-    ensures { result ≡ number_at at image.now }
-{
-    u32::from_be_bytes([image[at], image[at + 1], image[at + 2], image[at + 3]])
-}
-
-// The label of an image.
-fn label_of(image: &[u8]) -> Label
-    requires { 32 ≤ length image.now }
-    ensures { result ≡ label_of image.now }
-{
-    Label {
-        site: number_at(SITE_AT, image),
-        block: number_at(BLOCK_AT, image),
-        code: number_at(CODE_AT, image),
-        station: image[STATION_AT],
-    }
 }
 
 // The tests of a look, in their order.
@@ -73,23 +44,23 @@ pub(crate) fn look_tested(kind: u32, image: &[u8]) -> Result<(), Refusal>
     if wrong_length(image) {
         return Err(Refusal::ImageLength);
     }
-    if u32::from(image[KIND_AT]) != kind || !known(kind) {
+    if u32::from(image[KIND_AT]) != kind || Kind::try_from(kind).is_err() {
         return Err(Refusal::KindMismatch);
     }
-    if unlawful(label_of(image)) {
+    if Label::of_image(image).is_unlawful() {
         return Err(Refusal::ImageNumber);
     }
     Ok(())
 }
 
 // Cuts an image whose lengths add up.
-fn cut<'a>(image: &'a [u8]) -> Parts<'a>
+pub(crate) fn cut(image: &[u8]) -> Parts<'_>
     requires { wrong_length image.now ≡ false }
     ensures { shown_parts result ≡ shown_in image.now }
 {
     let header_at = HEADER_AT;
-    let ciphertext_at = header_at + image[HEADER_LEN_AT] as usize;
-    let tag_at = ciphertext_at + image[MESSAGE_LEN_AT] as usize;
+    let ciphertext_at = header_at + usize::from(image[HEADER_LEN_AT]);
+    let tag_at = ciphertext_at + usize::from(image[MESSAGE_LEN_AT]);
     Parts {
         header_at,
         header: &image[header_at..ciphertext_at],
@@ -106,7 +77,7 @@ fn parts_are_the_image(kind: u32, image: &[u8])
 {}
 
 // A reader of the image of one card, for one kind.
-#[derive(Clone, Copy)]
+#[derive(Clone, Copy, Debug, PartialEq, Eq)]
 pub struct ImageReader<'a> {
     kind: u32,
     bytes: &'a [u8],

@@ -1,23 +1,12 @@
-use Rattle.std.proofs.Common.{◌+◌, ◌*◌, ◌<◌, length, get_or, arith, length-set}
-use Rattle.std.proofs.lemmas.List.Edits.{fill_by_more}
+use Rattle.std.proofs.Common.{◌*◌, arith, rules}
+use Rattle.std.proofs.iter.Serving.{serving}
 use Rattle.hashing.specs.Sha2.{padded}
 use Rattle.hashing.proofs.Blocks.{filled}
 use Rattle.hashing.proofs.Sha2Padding.{padded_length}
 use Rattle.hashing.proofs.sha2.padded_block.Goals as goal
 
-pub overflow_mul-i : goal.overflow_mul-i
-overflow_mul-i c = omega (arith, c.requires, padded_length c.args.message.now)
-
-pub overflow_add-i : goal.overflow_add-i
-overflow_add-i c = omega (arith, c.requires, padded_length c.args.message.now)
-
-pub loop-j-preserved : goal.loop-j-preserved
-loop-j-preserved c =
-    let lt : c.loop-j.j < length c.loop-j.block = omega arith in (
-      simp length-set c.loop-j.invariant.0,
-      rw c.padded_byte.ensures (fill_by_more (λ k. get_or (padded c.args.message.now) (64 * c.args.i + k) 0) c.loop-j.block c.loop-j.j 0 lt c.loop-j.invariant.1),
-    )
+pub from_fn-requires : goal.from_fn-requires
+from_fn-requires c = let long = padded_length c.args.message.now in grind (serving, arith)
 
 pub returns : goal.returns
-returns c =
-    filled 64 (64 * c.args.i) (padded c.args.message.now) c.loop-j.block c.loop-j.invariant.0 c.requires (λ k h. c.loop-j.invariant.1 k (omega arith))
+returns c = filled _ _ (padded c.args.message.now) (64 * c.args.i) (λ i y q k. search rules) 64 c.from_fn.result c.from_fn.ensures.items c.requires
