@@ -2,7 +2,7 @@
 // samples; without, nothing. No part of the product.
 #![tactic(auto)]
 
-use anyhow::anyhow;
+use anyhow::Context;
 use compression::Sha256;
 use counter::{Block, CodeCell, RegisterCell, Station, Status};
 use refusal::Refusal;
@@ -14,48 +14,40 @@ const SAMPLES: u32 = 31;
 // So many fresh blocks make one sample.
 const BLOCKS: u32 = 200;
 
-// What is timed on a fresh block.
-#[derive(Clone, Copy)]
-enum Work {
-    // nothing: what reading the clock takes
-    Nothing,
-    // 16 times: a code is reserved, drawn and voided
-    Turns,
-    // 1,000 times a code is reserved
-    Singles,
-    // 1,000 codes are reserved in one call
-    Thousand,
+// Not inlined, so that the same code reserves one and 1,000, of a block that the compiler knows nothing of.
+#[inline(never)]
+fn reserve(block: &mut Block, count: u32) -> Result<(), Refusal> {
+    block.reserve(1, count)?;
+    Ok(())
 }
 
-// Reserves a code, draws it and voids it: answers the code.
-fn turn(block: &mut Block) -> Result<u32, Refusal> {
-    block.reserve(1, 1)?;
-    let slip = block.draw(1)?;
-    block.void(slip)
+// 16 times: a code is reserved, drawn and voided
+fn turns(block: &mut Block) -> Result<(), Refusal> {
+    for _ in 0..16 {
+        reserve(block, 1)?;
+        let slip = block.draw(1)?;
+        block.void(slip)?;
+    }
+    Ok(())
 }
 
-fn perform(block: &mut Block, work: Work) -> Result<(), Refusal> {
-    match work {
-        Work::Nothing => {}
-        Work::Turns => {
-            for _ in 0..16 {
-                turn(block)?;
-            }
-        }
-        Work::Singles => {
-            for _ in 0..1000 {
-                block.reserve(1, 1)?;
-            }
-        }
-        Work::Thousand => {
-            block.reserve(1, 1000)?;
-        }
+// 1,000 times a code is reserved
+fn singles(block: &mut Block) -> Result<(), Refusal> {
+    for _ in 0..1000 {
+        reserve(block, 1)?;
     }
     Ok(())
 }
 
 // The nanoseconds that the work takes on a fresh block over these cells. Opening it is not timed.
-fn once(rt: &HostRuntime, codes: &mut [CodeCell], limit: u16, work: Work) -> anyhow::Result<u128> {
+fn once<F: Fn(&mut Block) -> Result<(), Refusal>>(
+    rt: &HostRuntime,
+    codes: &mut [CodeCell],
+    limit: u16,
+    work: &F,
+) -> anyhow::Result<u128>
+    requires { F.IsAlwaysCallable work.now }
+{
     let key = [0; 32];
     let image = [0; 192];
     let mut register = [RegisterCell { next: 0, image }];
@@ -65,25 +57,29 @@ fn once(rt: &HostRuntime, codes: &mut [CodeCell], limit: u16, work: Work) -> any
     }];
     let mut block = Block::open::<Sha256>(1, 1, &key, codes, &mut register, &stations);
     let start = Instant::now(rt)?;
-    let done = perform(&mut block, work);
+    let done = work(&mut block);
     let spent = start.elapsed(rt)?;
-    match done {
-        Ok(()) => Ok(spent.as_nanos()),
-        Err(_) => Err(anyhow!("a call was refused")),
-    }
+    done.ok().context("a call was refused")?;
+    Ok(spent.as_nanos())
 }
 
 // The nanoseconds that the work takes on `BLOCKS` fresh blocks of `n` codes.
-fn sample(rt: &HostRuntime, n: u16, work: Work) -> anyhow::Result<u128> {
+fn sample<F: Fn(&mut Block) -> Result<(), Refusal>>(
+    rt: &HostRuntime,
+    n: u16,
+    work: F,
+) -> anyhow::Result<u128>
+    requires { F.IsAlwaysCallable work }
+{
     let free = CodeCell {
         status: Status::Free,
         station: 0,
         next: 0,
     };
-    let mut codes = vec![in rt.alloc(); free; n as usize]?;
+    let mut codes = vec![in rt.alloc(); free; usize::from(n)]?;
     let mut sum = 0u128;
     for _ in 0..BLOCKS {
-        let spent = once(rt, codes.as_mut_slice(), n, work)?;
+        let spent = once(rt, codes.as_mut_slice(), n, &work)?;
         sum = sum.saturating_add(spent);
     }
     Ok(sum)
@@ -91,21 +87,23 @@ fn sample(rt: &HostRuntime, n: u16, work: Work) -> anyhow::Result<u128> {
 
 fn run(rt: &HostRuntime) -> anyhow::Result<()> {
     for _ in 0..SAMPLES {
-        let nothing = sample(rt, 16, Work::Nothing)?;
-        let few = sample(rt, 16, Work::Turns)?;
-        let many = sample(rt, 4096, Work::Turns)?;
-        let singles = sample(rt, 4096, Work::Singles)?;
-        let thousand = sample(rt, 4096, Work::Thousand)?;
+        // what reading the clock takes
+        let nothing = sample(rt, 16, |_| Ok(()))?;
+        let few = sample(rt, 16, turns)?;
+        let many = sample(rt, 4096, turns)?;
+        let singles = sample(rt, 4096, singles)?;
+        let thousand = sample(rt, 4096, |block| reserve(block, 1000))?;
         println!(rt; "{nothing} {few} {many} {singles} {thousand}")?;
     }
     Ok(())
 }
 
 fn main(rt: HostRuntime) -> anyhow::Result<()> {
-    if let Some(word) = env::args(&rt)?.nth(1) {
-        if word.as_str() == "run" {
-            run(&rt)?;
-        }
+    if env::args(&rt)?
+        .nth(1)
+        .is_some_and(|word| word.as_str() == "run")
+    {
+        run(&rt)?;
     }
     Ok(())
 }

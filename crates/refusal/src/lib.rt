@@ -2,7 +2,8 @@
 // docs/REFUSALS.md says of each who meets it, when, and what memory holds after it.
 #![tactic(auto)]
 
-ghost use Rattle.std.specs.Prelude.{◌≡◌};
+ghost use Rattle.std.specs.Prelude.{◌≡◌, Some};
+ghost use Rattle.std.specs.Fmt.{decimal};
 ghost use Rattle.refusal.specs.Number.{number};
 ghost use Rattle.refusal.specs.Verdict.{code};
 
@@ -70,6 +71,8 @@ impl From<Refusal> for u32 {
 
 // A refusal is shown as its number.
 impl fmt::Display for Refusal {
+    ghost output = { λ refusal. Some (decimal (number refusal)) };
+
     fn fmt<W: fmt::Write>(&self, f: &mut fmt::Formatter<W>) -> fmt::Result {
         write!(f, "{}", u32::from(*self))
     }

@@ -1,9 +1,10 @@
 -- What a line asks. Assumes nothing.
-use Rattle.std.specs.Prelude.{ℕ, ◌+◌, ◌-◌, ◌*◌, cond, List, length, take, drop, Some, None, fold, Option, ◌==◌, nat_le, slice_index}
+use Rattle.std.specs.Prelude.{ℕ, ◌+◌, ◌-◌, ◌*◌, List, length, take, drop, Some, None, fold, Option, ◌&&◌, ◌==◌, nat_le, slice_index, if◌then◌else◌}
+use Rattle.std.specs.Option.{option_map, option_and_then}
 use Rattle.std.specs.Char.{is_ascii_digit}
 use Rattle.std.specs.List.{prefix_len}
 use Rattle.trial.specs.declared.request.Request.{Request}
-use Rattle.trial.specs.declared.request.Request.TheVariants.{Reserve, GiveBack, Void, Unknown}
+use Rattle.trial.specs.declared.request.Request.TheVariants.{Reserve, GiveBack, Void}
 
 -- The number that decimal digits write.
 abbrev pub digit : ℕ → ℕ → ℕ
@@ -14,49 +15,33 @@ value ds = fold digit 0 ds
 
 -- What follows a space at the front.
 abbrev pub after_space : List ℕ → Option (List ℕ)
-after_space bs = cond (slice_index bs 0 == 32) (Some (drop 1 bs)) None
+after_space bs = (if slice_index bs 0 == 32 then Some (drop 1 bs) else None)
 
 -- A number of 1 to 5 digits at the front, and what follows it; n is how many digits there are.
 abbrev pub field_of : ℕ → List ℕ → Option (ℕ × List ℕ)
-field_of n bs = cond (nat_le 1 n) (cond (nat_le n 5) (Some (value (take n bs), drop n bs)) None) None
+field_of n bs = (if nat_le 1 n && nat_le n 5 then Some (value (take n bs), drop n bs) else None)
 
 abbrev pub leading_field : List ℕ → Option (ℕ × List ℕ)
 leading_field bs = field_of (prefix_len is_ascii_digit bs) bs
 
 -- The number, where nothing follows it.
-abbrev pub at_end : List ℕ → ℕ → Option ℕ
-at_end bs n = cond (length bs == 0) (Some n) None
+abbrev pub at_end : ℕ → List ℕ → Option ℕ
+at_end n bs = (if length bs == 0 then Some n else None)
 
-abbrev pub ending : Option (ℕ × List ℕ) → Option ℕ
-ending None = None
-ending (Some (n, bs)) = at_end bs n
-
-abbrev pub last_field : Option (List ℕ) → Option ℕ
-last_field None = None
-last_field (Some bs) = ending (leading_field bs)
-
--- A request that needs a number which may be missing.
-abbrev pub asking : (ℕ → Request) → Option ℕ → Request
-asking request None = Unknown
-asking request (Some n) = request n
+-- The number of a last field, from the space before it on.
+abbrev pub last_field : List ℕ → Option ℕ
+last_field bs = option_and_then (λ f. at_end f.0 f.1) (option_and_then leading_field (after_space bs))
 
 -- After the letter l (82 is R, 71 is G, 86 is V) and the station k.
-abbrev pub by_letter : ℕ → ℕ → List ℕ → Request
+abbrev pub by_letter : ℕ → ℕ → List ℕ → Option Request
 by_letter l k bs =
-    cond (l == 82) (asking (Reserve k) (last_field (after_space bs)))
-    (cond (l == 71) (asking (GiveBack k) (last_field (after_space bs))) (cond (l == 86) (asking Void (at_end bs k)) Unknown))
+    (if l == 82 then option_map (Reserve k) (last_field bs) else
+    (if l == 71 then option_map (GiveBack k) (last_field bs) else
+    (if l == 86 then option_map Void (at_end k bs) else None)))
 
-abbrev pub after_field : ℕ → Option (ℕ × List ℕ) → Request
-after_field l None = Unknown
-after_field l (Some (k, bs)) = by_letter l k bs
+abbrev pub after_letter : ℕ → List ℕ → Option Request
+after_letter l bs = option_and_then (λ f. by_letter l f.0 f.1) (leading_field bs)
 
-abbrev pub after_letter : ℕ → Option (List ℕ) → Request
-after_letter l None = Unknown
-after_letter l (Some bs) = after_field l (leading_field bs)
-
--- A letter, a space, a station, and what the letter asks for; 200 bytes at most.
-abbrev pub whole : List ℕ → Request
-whole bs = after_letter (slice_index bs 0) (after_space (drop 1 bs))
-
-abbrev pub parsed : List ℕ → Request
-parsed bs = cond (nat_le (length bs) 200) (whole bs) Unknown
+-- A letter, a space, a station, and what the letter asks for; 200 bytes at most. Any other line asks nothing.
+abbrev pub parsed : List ℕ → Option Request
+parsed bs = (if nat_le (length bs) 200 then option_and_then (after_letter (slice_index bs 0)) (after_space (drop 1 bs)) else None)

@@ -43,7 +43,7 @@ fn main(rt: HostRuntime) -> io::Result<()> {
     for line in BufReader::new(rt.alloc(), rt.stdin())?.split(rt.alloc(), b'\n') {
         let line = line?;
         let answer = step(&mut block, parse(line.as_slice()));
-        println!(rt; "{} {} {}", answer.letter, answer.number, answer.value)?;
+        println!(rt; "{answer}")?;
     }
     Ok(())
 }

@@ -1,9 +1,9 @@
 // What a line asks.
-ghost use Rattle.std.specs.Prelude.{◌≡◌, ℕ, ◌≤◌, length};
+ghost use Rattle.std.specs.Prelude.{◌≡◌, ◌≤◌, length};
 ghost use Rattle.std.specs.Option.{option_map};
 ghost use Rattle.std.specs.Char.{is_ascii_digit};
 ghost use Rattle.std.specs.List.{prefix_len};
-ghost use Rattle.trial.specs.Line.{value, after_space, leading_field, last_field, by_letter, parsed};
+ghost use Rattle.trial.specs.Line.{value, leading_field, last_field, parsed};
 
 // The longest line that is read.
 const LONGEST: usize = 200;
@@ -11,12 +11,11 @@ const LONGEST: usize = 200;
 // The most digits of a number.
 const MOST_DIGITS: usize = 5;
 
-#[derive(Clone, Copy)]
+#[derive(Clone, Copy, Debug)]
 pub(crate) enum Request {
     Reserve { station: u32, count: u32 },
     GiveBack { station: u32, count: u32 },
     Void { station: u32 },
-    Unknown,
 }
 
 // How many digits the bytes begin with.
@@ -24,12 +23,7 @@ fn digits(s: &[u8]) -> usize
     ensures value { result ≡ prefix_len is_ascii_digit s.now }
     ensures within { result ≤ length s.now }
 {
-    for (i, b) in s.iter().enumerate() {
-        if !b.is_ascii_digit() {
-            return i;
-        }
-    }
-    s.len()
+    s.iter().take_while(|b| b.is_ascii_digit()).count()
 }
 
 // The number that a few digits write.
@@ -37,22 +31,12 @@ fn number(s: &[u8]) -> u32
     requires { length s.now ≤ 5 }
     ensures { result ≡ value s.now }
 {
-    let mut n = 0u32;
+    // no `fold`: its closure would have to show that the sum fits whatever the total so far
+    let mut n = 0;
     for b in s {
         n = n * 10 + u32::from(b.saturating_sub(b'0'));
     }
     n
-}
-
-// What follows a space at the front.
-fn after_space(s: &[u8]) -> Option<&[u8]>
-    ensures { option_map (λ x. x.now) result ≡ after_space s.now }
-{
-    if s.len() > 0 && s[0] == b' ' {
-        let (_, rest) = s.split_at(1);
-        return Some(rest);
-    }
-    None
 }
 
 // A number at the front, and what follows it.
@@ -69,50 +53,35 @@ fn leading_field(s: &[u8]) -> Option<(u32, &[u8])>
 
 // The number of a line's last field, from the space before it on.
 fn last_field(s: &[u8]) -> Option<u32>
-    ensures { result ≡ last_field (after_space s.now) }
+    ensures { result ≡ last_field s.now }
 {
-    let s = after_space(s)?;
+    let [b' ', s @ ..] = s else {
+        return None;
+    };
     let (n, rest) = leading_field(s)?;
-    if rest.is_empty() { Some(n) } else { None }
+    rest.is_empty().then_some(n)
 }
 
-// What a letter with a station asks, from what follows the station.
-fn by_letter(letter: u8, station: u32, rest: &[u8]) -> Request
-    ensures { result ≡ by_letter letter station rest.now }
-{
-    match letter {
-        b'R' => match last_field(rest) {
-            Some(count) => Request::Reserve { station, count },
-            None => Request::Unknown,
-        },
-        b'G' => match last_field(rest) {
-            Some(count) => Request::GiveBack { station, count },
-            None => Request::Unknown,
-        },
-        b'V' => {
-            if rest.is_empty() {
-                Request::Void { station }
-            } else {
-                Request::Unknown
-            }
-        }
-        _ => Request::Unknown,
-    }
-}
-
-pub(crate) fn parse(line: &[u8]) -> Request
+pub(crate) fn parse(line: &[u8]) -> Option<Request>
     ensures { result ≡ parsed line.now }
 {
-    if line.len() > LONGEST || line.is_empty() {
-        return Request::Unknown;
+    if line.len() > LONGEST {
+        return None;
     }
-    let letter = line[0];
-    let (_, rest) = line.split_at(1);
-    let Some(rest) = after_space(rest) else {
-        return Request::Unknown;
+    let [letter, b' ', rest @ ..] = line else {
+        return None;
     };
-    let Some((station, rest)) = leading_field(rest) else {
-        return Request::Unknown;
-    };
-    by_letter(letter, station, rest)
+    let (station, rest) = leading_field(rest)?;
+    match *letter {
+        b'R' => Some(Request::Reserve {
+            station,
+            count: last_field(rest)?,
+        }),
+        b'G' => Some(Request::GiveBack {
+            station,
+            count: last_field(rest)?,
+        }),
+        b'V' if rest.is_empty() => Some(Request::Void { station }),
+        _ => None,
+    }
 }

@@ -1,34 +1,29 @@
 // What is answered for a request.
-ghost use Rattle.std.specs.Prelude.{◌≡◌};
+ghost use Rattle.std.specs.Prelude.{◌≡◌, Some};
 ghost use Rattle.counter.specs.Shown.{view};
 ghost use Rattle.trial.specs.Answer.{printed, DrawAndVoid, Stepped};
 
 use crate::request::Request;
 use counter::Block;
 use refusal::Refusal;
+use std::fmt;
 
-// A printed line: a letter, the number of the refusal or 0, and the answer, which is 0 where the call was refused.
-#[derive(Clone, Copy)]
+// What a request is answered: its letter, and what the block answered.
+#[derive(Clone, Copy, Debug)]
 pub(crate) struct Answer {
-    pub(crate) letter: char,
-    pub(crate) number: u32,
-    pub(crate) value: u32,
+    letter: char,
+    outcome: Result<u32, Refusal>,
 }
 
-fn answered(letter: char, outcome: Result<u32, Refusal>) -> Answer
-    ensures { result ≡ printed letter outcome }
-{
-    match outcome {
-        Ok(value) => Answer {
-            letter,
-            number: 0,
-            value,
-        },
-        Err(refusal) => Answer {
-            letter,
-            number: u32::from(refusal),
-            value: 0,
-        },
+impl fmt::Display for Answer {
+    ghost output = { λ a. Some (printed a) };
+
+    fn fmt<W: fmt::Write>(&self, f: &mut fmt::Formatter<W>) -> fmt::Result {
+        let (number, value) = match self.outcome {
+            Ok(value) => (0, value),
+            Err(refusal) => (u32::from(refusal), 0),
+        };
+        write!(f, "{} {number} {value}", self.letter)
     }
 }
 
@@ -40,17 +35,14 @@ fn draw_and_void(block: &mut Block<'_, '_, '_, '_>, station: u32) -> Result<u32,
     block.void(slip)
 }
 
-pub(crate) fn step(block: &mut Block<'_, '_, '_, '_>, request: Request) -> Answer
+pub(crate) fn step(block: &mut Block<'_, '_, '_, '_>, request: Option<Request>) -> Answer
     ensures { Stepped (view block.old.t) request result (view block.new.t) }
 {
-    match request {
-        Request::Reserve { station, count } => answered('R', block.reserve(station, count)),
-        Request::GiveBack { station, count } => answered('G', block.give_back(station, count)),
-        Request::Void { station } => answered('V', draw_and_void(block, station)),
-        Request::Unknown => Answer {
-            letter: '?',
-            number: 0,
-            value: 0,
-        },
-    }
+    let (letter, outcome) = match request {
+        Some(Request::Reserve { station, count }) => ('R', block.reserve(station, count)),
+        Some(Request::GiveBack { station, count }) => ('G', block.give_back(station, count)),
+        Some(Request::Void { station }) => ('V', draw_and_void(block, station)),
+        None => ('?', Ok(0)),
+    };
+    Answer { letter, outcome }
 }

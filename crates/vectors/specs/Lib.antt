@@ -1,4 +1,5 @@
 pub mod ByKind
+pub mod Field
 pub mod OfKind
 pub mod Sealing
 pub mod Numbers

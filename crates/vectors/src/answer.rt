@@ -3,8 +3,8 @@ ghost use Rattle.std.specs.Prelude.{◌≡◌};
 ghost use Rattle.vectors.specs.Numbers.{in_numbers};
 
 use crate::compress::compressed;
-use crate::hex::{push_field, push_hex};
-use crate::request::{Compress, Image, Look, Open, Request, Seal, parse};
+use crate::hex::Hex;
+use crate::request::{Compress, Image, Look, Open, Request, Seal, Unread, parse};
 use crate::seal::{opened, sealed};
 use image::{ImageReader, open_image_by_kind};
 use refusal::Refusal;
@@ -14,24 +14,22 @@ use std::alloc::{AllocError, Global};
 const MOST_TAG: u32 = 65;
 
 pub(crate) fn answer(heap: Global, line: &[u8]) -> Result<String, AllocError> {
-    match parse(heap, line)? {
-        Request::Sha256(message) => named(heap, "sha256 ", &hashing::sha256(message.as_slice())),
-        Request::Blake2b(message) => named(heap, "blake2b ", &hashing::blake2b(message.as_slice())),
-        Request::Compress(request) => answer_compress(heap, &request),
-        Request::Double(string) => answer_double(heap, string),
-        Request::Seal(request) => answer_seal(heap, &request),
-        Request::Open(request) => answer_open(heap, request),
-        Request::Look(request) => answer_look(heap, &request),
-        Request::Image(request) => answer_image(heap, request),
-        Request::Unknown => String::from_str(heap, "?"),
+    match parse(heap, line) {
+        Ok(Request::Sha256(message)) => {
+            format!(in heap; "sha256 {}", Hex(&hashing::sha256(message.as_slice())))
+        }
+        Ok(Request::Blake2b(message)) => {
+            format!(in heap; "blake2b {}", Hex(&hashing::blake2b(message.as_slice())))
+        }
+        Ok(Request::Compress(request)) => answer_compress(heap, &request),
+        Ok(Request::Double(string)) => answer_double(heap, string),
+        Ok(Request::Seal(request)) => answer_seal(heap, &request),
+        Ok(Request::Open(request)) => answer_open(heap, request),
+        Ok(Request::Look(request)) => answer_look(heap, &request),
+        Ok(Request::Image(request)) => answer_image(heap, request),
+        Err(Unread::NoRequest) => String::from_str(heap, "?"),
+        Err(Unread::Memory(e)) => Err(e),
     }
-}
-
-// A name and a byte string.
-fn named(heap: Global, name: &str, bytes: &[u8]) -> Result<String, AllocError> {
-    let mut text = String::from_str(heap, name)?;
-    push_field(&mut text, bytes)?;
-    Ok(text)
 }
 
 // The number of the refusal and no length, or 0 and the length.
@@ -53,33 +51,15 @@ fn answer_compress(heap: Global, request: &Compress) -> Result<String, AllocErro
         request.message.as_slice(),
         &mut place,
     );
-    let mut text = String::new(heap);
-    push_compressed(heap, &mut text, answer, &place)?;
-    Ok(text)
-}
-
-// The refusal's number and no bytes, or 0 and the bytes that were written to the front of the place.
-fn push_compressed(
-    heap: Global,
-    text: &mut String,
-    answer: Result<usize, Refusal>,
-    place: &[u8; 64],
-) -> Result<(), AllocError> {
     match answer {
-        Ok(n) => {
-            text.push_str("compress 0 ")?;
-            push_hex(text, &place[0..n.min(64)])
-        }
-        Err(refusal) => {
-            let number = u32::from(refusal);
-            text.push_str(format!(in heap; "compress {number} -")?.as_str())
-        }
+        Ok(n) => format!(in heap; "compress 0 {}", Hex(&place[..n.min(64)])),
+        Err(refusal) => format!(in heap; "compress {refusal} -"),
     }
 }
 
 fn answer_double(heap: Global, mut string: Vec<u8>) -> Result<String, AllocError> {
     match sealing::double(string.as_mut_slice()) {
-        Ok(()) => named(heap, "double ", string.as_slice()),
+        Ok(()) => format!(in heap; "double {}", Hex(string.as_slice())),
         Err(_) => String::from_str(heap, "?"),
     }
 }
@@ -100,15 +80,13 @@ fn answer_seal(heap: Global, request: &Seal) -> Result<String, AllocError> {
     );
     match answer {
         Ok(_) => {
-            let mut text = named(heap, "seal 0 ", ciphertext.as_slice())?;
-            text.push(' ')?;
-            push_field(&mut text, tag.as_slice())?;
-            Ok(text)
+            format!(in heap;
+                "seal 0 {} {}",
+                Hex(ciphertext.as_slice()),
+                Hex(tag.as_slice())
+            )
         }
-        Err(refusal) => {
-            let number = u32::from(refusal);
-            format!(in heap; "seal {number} - -")
-        }
+        Err(refusal) => format!(in heap; "seal {refusal} - -"),
     }
 }
 
@@ -122,33 +100,23 @@ fn answer_open(heap: Global, mut request: Open) -> Result<String, AllocError> {
         request.tag.as_slice(),
         request.place.as_mut_slice(),
     ));
-    let mut text = format!(in heap; "open {number} {n} ")?;
-    push_field(&mut text, request.place.as_slice())?;
-    Ok(text)
+    format!(in heap; "open {number} {n} {}", Hex(request.place.as_slice()))
 }
 
+// Each part of an image: where it begins, and its bytes.
 fn answer_look(heap: Global, request: &Look) -> Result<String, AllocError> {
     match ImageReader::new(request.kind, request.image.as_slice()).look() {
-        Ok(parts) => {
-            let mut text = String::from_str(heap, "look 0 ")?;
-            push_part(heap, &mut text, parts.header_at, parts.header)?;
-            text.push(' ')?;
-            push_part(heap, &mut text, parts.ciphertext_at, parts.ciphertext)?;
-            text.push(' ')?;
-            push_part(heap, &mut text, parts.tag_at, parts.tag)?;
-            Ok(text)
-        }
-        Err(refusal) => {
-            let number = u32::from(refusal);
-            format!(in heap; "look {number} - - -")
-        }
+        Ok(parts) => format!(in heap;
+            "look 0 {}:{} {}:{} {}:{}",
+            parts.header_at,
+            Hex(parts.header),
+            parts.ciphertext_at,
+            Hex(parts.ciphertext),
+            parts.tag_at,
+            Hex(parts.tag)
+        ),
+        Err(refusal) => format!(in heap; "look {refusal} - - -"),
     }
-}
-
-// A part of an image: where it begins, and its bytes.
-fn push_part(heap: Global, text: &mut String, at: usize, bytes: &[u8]) -> Result<(), AllocError> {
-    text.push_str(format!(in heap; "{at}:")?.as_str())?;
-    push_field(text, bytes)
 }
 
 fn answer_image(heap: Global, mut request: Image) -> Result<String, AllocError> {
@@ -158,7 +126,5 @@ fn answer_image(heap: Global, mut request: Image) -> Result<String, AllocError> 
         request.image.as_slice(),
         request.place.as_mut_slice(),
     ));
-    let mut text = format!(in heap; "image {number} {n} ")?;
-    push_field(&mut text, request.place.as_slice())?;
-    Ok(text)
+    format!(in heap; "image {number} {n} {}", Hex(request.place.as_slice()))
 }

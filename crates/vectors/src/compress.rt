@@ -2,7 +2,7 @@
 ghost use Rattle.std.specs.Prelude.{◌≡◌};
 ghost use Rattle.vectors.specs.ByKind.{compressed as block, by_kind, at_front};
 
-use compression::{Blake2b, Compression, Sha256};
+use compression::{Blake2b, Compression, Kind, Sha256};
 use refusal::Refusal;
 
 // Compresses to the front of the place, and answers the bytes of a block.
@@ -19,7 +19,7 @@ fn compress_front<C: Compression>(
     Ok(b)
 }
 
-// The same for the number of a kind. The numbers are asked of the compressions, so that the contract holds them to 1 and 2.
+// The same for the number of a kind.
 pub(crate) fn compressed(
     kind: u32,
     key: &[u8],
@@ -29,11 +29,8 @@ pub(crate) fn compressed(
 ) -> Result<usize, Refusal>
     ensures { at_front result place.new ≡ by_kind kind key.now chaining.now message.now }
 {
-    if kind == u32::from(Sha256::KIND) {
-        compress_front::<Sha256>(key, chaining, message, place)
-    } else if kind == u32::from(Blake2b::KIND) {
-        compress_front::<Blake2b>(key, chaining, message, place)
-    } else {
-        Err(Refusal::KindMismatch)
+    match Kind::try_from(kind)? {
+        Kind::Sha256 => compress_front::<Sha256>(key, chaining, message, place),
+        Kind::Blake2b => compress_front::<Blake2b>(key, chaining, message, place),
     }
 }

@@ -1,53 +1,49 @@
 // Byte strings as lower-case hex, with `-` for the empty one.
-use std::alloc::{AllocError, Global};
+ghost use Rattle.std.specs.Prelude.{Some};
+ghost use Rattle.vectors.specs.Field.{field};
 
-fn nibble(digit: u8) -> Option<u8> {
+use crate::request::Unread;
+use std::alloc::Global;
+use std::fmt;
+
+fn nibble(digit: u8) -> Result<u8, Unread> {
     match digit {
-        b'0'..=b'9' => Some(digit - b'0'),
-        b'a'..=b'f' => Some(digit - b'a' + 10),
-        _ => None,
+        b'0'..=b'9' => Ok(digit - b'0'),
+        b'a'..=b'f' => Ok(digit - b'a' + 10),
+        _ => Err(Unread::NoRequest),
     }
 }
 
-// The bytes that a field stands for, or None where it is no byte string.
-pub(crate) fn decode(heap: Global, field: &[u8]) -> Result<Option<Vec<u8>>, AllocError> {
-    let mut bytes = Vec::new(heap);
-    if field == b"-".as_slice() {
-        return Ok(Some(bytes));
-    }
-    for pair in field.chunks(2) {
-        let [high, low] = pair else {
-            return Ok(None);
-        };
-        let (Some(high), Some(low)) = (nibble(*high), nibble(*low)) else {
-            return Ok(None);
-        };
-        bytes.push((high << 4) | low)?;
-    }
-    Ok(if bytes.is_empty() { None } else { Some(bytes) })
+fn byte(pair: &[u8]) -> Result<u8, Unread> {
+    let &[high, low] = pair else {
+        return Err(Unread::NoRequest);
+    };
+    Ok((nibble(high)? << 4) | nibble(low)?)
 }
 
-fn digit(nibble: u8) -> char {
-    char::from(if nibble < 10 {
-        b'0' + nibble
-    } else {
-        b'a'.wrapping_add(nibble.wrapping_sub(10))
-    })
+// The bytes that a field stands for. An empty field is no byte string.
+pub(crate) fn decode(heap: Global, field: &str) -> Result<Vec<u8>, Unread> {
+    match field {
+        "" => Err(Unread::NoRequest),
+        "-" => Ok(Vec::new(heap)),
+        digits => digits.as_bytes().chunks(2).map(byte).try_collect(heap),
+    }
 }
 
-// Adds the bytes, two digits each.
-pub(crate) fn push_hex(text: &mut String, bytes: &[u8]) -> Result<(), AllocError> {
-    for b in bytes {
-        text.push(digit(b >> 4))?;
-        text.push(digit(b & 15))?;
-    }
-    Ok(())
-}
+// The field that stands for the bytes: two digits each, or `-` for none.
+#[derive(Clone, Copy)]
+pub(crate) struct Hex<'a>(pub(crate) &'a [u8]);
 
-// Adds the field that stands for a byte string.
-pub(crate) fn push_field(text: &mut String, bytes: &[u8]) -> Result<(), AllocError> {
-    if bytes.is_empty() {
-        return text.push('-');
+impl fmt::Display for Hex<'_> {
+    ghost output = { λ h. Some (field h.0.now) };
+
+    fn fmt<W: fmt::Write>(&self, f: &mut fmt::Formatter<W>) -> fmt::Result {
+        if self.0.is_empty() {
+            return write!(f, "-");
+        }
+        for &b in self.0 {
+            write!(f, "{b:02x}")?;
+        }
+        Ok(())
     }
-    push_hex(text, bytes)
 }

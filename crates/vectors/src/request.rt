@@ -4,8 +4,10 @@ ghost use Rattle.vectors.specs.declared.request.Unread.TheVariants.{Memory};
 
 use crate::hex::decode;
 use std::alloc::{AllocError, Global};
+use std::str;
+use std::str::Split;
 
-#[derive(Drop)]
+#[derive(Debug, Drop)]
 pub(crate) enum Request {
     Sha256(Vec<u8>),
     Blake2b(Vec<u8>),
@@ -15,10 +17,9 @@ pub(crate) enum Request {
     Open(Open),
     Look(Look),
     Image(Image),
-    Unknown,
 }
 
-#[derive(Drop)]
+#[derive(Debug, Drop)]
 pub(crate) struct Compress {
     pub(crate) kind: u32,
     pub(crate) key: Vec<u8>,
@@ -26,7 +27,7 @@ pub(crate) struct Compress {
     pub(crate) message: Vec<u8>,
 }
 
-#[derive(Drop)]
+#[derive(Debug, Drop)]
 pub(crate) struct Seal {
     pub(crate) kind: u32,
     pub(crate) key: Vec<u8>,
@@ -36,7 +37,7 @@ pub(crate) struct Seal {
     pub(crate) tag_len: u32,
 }
 
-#[derive(Drop)]
+#[derive(Debug, Drop)]
 pub(crate) struct Open {
     pub(crate) kind: u32,
     pub(crate) key: Vec<u8>,
@@ -47,13 +48,13 @@ pub(crate) struct Open {
     pub(crate) place: Vec<u8>,
 }
 
-#[derive(Drop)]
+#[derive(Debug, Drop)]
 pub(crate) struct Look {
     pub(crate) kind: u32,
     pub(crate) image: Vec<u8>,
 }
 
-#[derive(Drop)]
+#[derive(Debug, Drop)]
 pub(crate) struct Image {
     pub(crate) kind: u32,
     pub(crate) key: Vec<u8>,
@@ -62,8 +63,8 @@ pub(crate) struct Image {
 }
 
 // Why a line was not read.
-#[derive(Drop)]
-enum Unread {
+#[derive(Debug, Drop)]
+pub(crate) enum Unread {
     NoRequest,
     Memory(AllocError),
 }
@@ -76,137 +77,120 @@ impl From<AllocError> for Unread {
     }
 }
 
-// The fields of a line, which single spaces separate.
-fn fields(heap: Global, line: &[u8]) -> Result<Vec<&[u8]>, AllocError> {
-    let mut fields = Vec::new(heap);
-    let mut start = 0;
-    for (i, b) in line.iter().enumerate() {
-        if *b == b' ' {
-            fields.push(&line[start..i])?;
-            start = i + 1;
-        }
-    }
-    fields.push(&line[start..])?;
-    Ok(fields)
+// What is left of a line's fields, which single spaces separate.
+#[derive(Drop)]
+struct Fields<'a> {
+    heap: Global,
+    left: Split<'a, char>,
 }
 
-// A decimal number. One too large for its type becomes the largest.
-fn number(field: &[u8]) -> Result<u32, Unread> {
-    let mut n = 0u32;
-    for b in field {
-        if !b.is_ascii_digit() {
-            return Err(Unread::NoRequest);
-        }
-        n = n
-            .saturating_mul(10)
-            .saturating_add(u32::from(b.saturating_sub(b'0')));
+impl<'a> Fields<'a> {
+    fn next(&mut self) -> Result<&'a str, Unread> {
+        self.left.next().ok_or(Unread::NoRequest)
     }
+
+    fn number(&mut self) -> Result<u32, Unread> {
+        number(self.next()?).ok_or(Unread::NoRequest)
+    }
+
+    fn string(&mut self) -> Result<Vec<u8>, Unread> {
+        decode(self.heap, self.next()?)
+    }
+
+    fn end(&mut self) -> Result<(), Unread> {
+        match self.left.next() {
+            None => Ok(()),
+            Some(_) => Err(Unread::NoRequest),
+        }
+    }
+}
+
+// A decimal number. One too large for its type becomes the largest, which is why this is no `parse`.
+fn number(field: &str) -> Option<u32> {
     if field.is_empty() {
-        Err(Unread::NoRequest)
-    } else {
-        Ok(n)
+        return None;
+    }
+    field.chars().try_fold(0u32, |n, c| {
+        Some(n.saturating_mul(10).saturating_add(c.to_digit(10)?))
+    })
+}
+
+impl Compress {
+    fn read(fields: &mut Fields) -> Result<Compress, Unread> {
+        Ok(Compress {
+            kind: fields.number()?,
+            key: fields.string()?,
+            chaining: fields.string()?,
+            message: fields.string()?,
+        })
     }
 }
 
-fn string(heap: Global, field: &[u8]) -> Result<Vec<u8>, Unread> {
-    decode(heap, field)?.ok_or(Unread::NoRequest)
-}
-
-fn parse_compress(heap: Global, fields: &[&[u8]]) -> Result<Request, Unread> {
-    let [kind, key, chaining, message] = fields else {
-        return Err(Unread::NoRequest);
-    };
-    Ok(Request::Compress(Compress {
-        kind: number(kind)?,
-        key: string(heap, key)?,
-        chaining: string(heap, chaining)?,
-        message: string(heap, message)?,
-    }))
-}
-
-fn parse_seal(heap: Global, fields: &[&[u8]]) -> Result<Request, Unread> {
-    let [kind, key, nonce, data, message, tag_len] = fields else {
-        return Err(Unread::NoRequest);
-    };
-    Ok(Request::Seal(Seal {
-        kind: number(kind)?,
-        key: string(heap, key)?,
-        nonce: string(heap, nonce)?,
-        data: string(heap, data)?,
-        message: string(heap, message)?,
-        tag_len: number(tag_len)?,
-    }))
-}
-
-fn parse_open(heap: Global, fields: &[&[u8]]) -> Result<Request, Unread> {
-    let [kind, key, nonce, data, ciphertext, tag, place] = fields else {
-        return Err(Unread::NoRequest);
-    };
-    Ok(Request::Open(Open {
-        kind: number(kind)?,
-        key: string(heap, key)?,
-        nonce: string(heap, nonce)?,
-        data: string(heap, data)?,
-        ciphertext: string(heap, ciphertext)?,
-        tag: string(heap, tag)?,
-        place: string(heap, place)?,
-    }))
-}
-
-fn parse_look(heap: Global, fields: &[&[u8]]) -> Result<Request, Unread> {
-    let [kind, image] = fields else {
-        return Err(Unread::NoRequest);
-    };
-    Ok(Request::Look(Look {
-        kind: number(kind)?,
-        image: string(heap, image)?,
-    }))
-}
-
-fn parse_image(heap: Global, fields: &[&[u8]]) -> Result<Request, Unread> {
-    let [kind, key, image, place] = fields else {
-        return Err(Unread::NoRequest);
-    };
-    Ok(Request::Image(Image {
-        kind: number(kind)?,
-        key: string(heap, key)?,
-        image: string(heap, image)?,
-        place: string(heap, place)?,
-    }))
-}
-
-// The requests of one byte string.
-fn parse_string(heap: Global, command: &[u8], fields: &[&[u8]]) -> Result<Request, Unread> {
-    let [field] = fields else {
-        return Err(Unread::NoRequest);
-    };
-    match command {
-        b"sha256" => Ok(Request::Sha256(string(heap, field)?)),
-        b"blake2b" => Ok(Request::Blake2b(string(heap, field)?)),
-        b"double" => Ok(Request::Double(string(heap, field)?)),
-        _ => Err(Unread::NoRequest),
+impl Seal {
+    fn read(fields: &mut Fields) -> Result<Seal, Unread> {
+        Ok(Seal {
+            kind: fields.number()?,
+            key: fields.string()?,
+            nonce: fields.string()?,
+            data: fields.string()?,
+            message: fields.string()?,
+            tag_len: fields.number()?,
+        })
     }
 }
 
-fn parse_line(heap: Global, line: &[u8]) -> Result<Request, Unread> {
-    let fields = fields(heap, line)?;
-    let [command, rest @ ..] = fields.as_slice() else {
-        return Err(Unread::NoRequest);
-    };
-    match *command {
-        b"compress" => parse_compress(heap, rest),
-        b"seal" => parse_seal(heap, rest),
-        b"open" => parse_open(heap, rest),
-        b"look" => parse_look(heap, rest),
-        b"image" => parse_image(heap, rest),
-        other => parse_string(heap, other, rest),
+impl Open {
+    fn read(fields: &mut Fields) -> Result<Open, Unread> {
+        Ok(Open {
+            kind: fields.number()?,
+            key: fields.string()?,
+            nonce: fields.string()?,
+            data: fields.string()?,
+            ciphertext: fields.string()?,
+            tag: fields.string()?,
+            place: fields.string()?,
+        })
     }
 }
 
-pub(crate) fn parse(heap: Global, line: &[u8]) -> Result<Request, AllocError> {
-    match parse_line(heap, line) {
-        Ok(request) => Ok(request),
-        Err(Unread::NoRequest) => Ok(Request::Unknown),
-        Err(Unread::Memory(e)) => Err(e),
+impl Look {
+    fn read(fields: &mut Fields) -> Result<Look, Unread> {
+        Ok(Look {
+            kind: fields.number()?,
+            image: fields.string()?,
+        })
     }
+}
+
+impl Image {
+    fn read(fields: &mut Fields) -> Result<Image, Unread> {
+        Ok(Image {
+            kind: fields.number()?,
+            key: fields.string()?,
+            image: fields.string()?,
+            place: fields.string()?,
+        })
+    }
+}
+
+// The request of a line. One that is not text asks nothing.
+pub(crate) fn parse(heap: Global, line: &[u8]) -> Result<Request, Unread> {
+    let line = str::from_utf8(line).map_err(|_| Unread::NoRequest)?;
+    let mut fields = Fields {
+        heap,
+        left: line.split(' '),
+    };
+    let request = match fields.next()? {
+        "sha256" => Request::Sha256(fields.string()?),
+        "blake2b" => Request::Blake2b(fields.string()?),
+        "compress" => Request::Compress(Compress::read(&mut fields)?),
+        "double" => Request::Double(fields.string()?),
+        "seal" => Request::Seal(Seal::read(&mut fields)?),
+        "open" => Request::Open(Open::read(&mut fields)?),
+        "look" => Request::Look(Look::read(&mut fields)?),
+        "image" => Request::Image(Image::read(&mut fields)?),
+        _ => return Err(Unread::NoRequest),
+    };
+    fields.end()?;
+    Ok(request)
 }

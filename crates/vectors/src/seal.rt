@@ -2,7 +2,7 @@
 ghost use Rattle.std.specs.Prelude.{◌≡◌};
 ghost use Rattle.vectors.specs.Sealing.{seal_answer, ciphertext_after, tag_after, open_answer, message_after};
 
-use compression::{Blake2b, Compression, Sha256};
+use compression::{Blake2b, Kind, Sha256};
 use refusal::Refusal;
 
 // Seals to the fronts of the places, and answers the length of the message.
@@ -20,12 +20,13 @@ pub(crate) fn sealed(
     ensures ciphertext { ciphertext.new ≡ ciphertext_after result kind key.now nonce.now «data».now message.now tag_len ciphertext.old }
     ensures tag { tag.new ≡ tag_after result kind key.now nonce.now «data».now message.now tag_len tag.old }
 {
-    if kind == u32::from(Sha256::KIND) {
-        sealing::seal::<Sha256>(key, nonce, data, message, tag_len, ciphertext, tag)
-    } else if kind == u32::from(Blake2b::KIND) {
-        sealing::seal::<Blake2b>(key, nonce, data, message, tag_len, ciphertext, tag)
-    } else {
-        Err(Refusal::KindMismatch)
+    match Kind::try_from(kind)? {
+        Kind::Sha256 => {
+            sealing::seal::<Sha256>(key, nonce, data, message, tag_len, ciphertext, tag)
+        }
+        Kind::Blake2b => {
+            sealing::seal::<Blake2b>(key, nonce, data, message, tag_len, ciphertext, tag)
+        }
     }
 }
 
@@ -42,11 +43,8 @@ pub(crate) fn opened(
     ensures answer { result ≡ open_answer kind key.now nonce.now «data».now ciphertext.now tag.now place.old }
     ensures place { place.new ≡ message_after result kind key.now nonce.now ciphertext.now tag.now place.old }
 {
-    if kind == u32::from(Sha256::KIND) {
-        sealing::open::<Sha256>(key, nonce, data, ciphertext, tag, place)
-    } else if kind == u32::from(Blake2b::KIND) {
-        sealing::open::<Blake2b>(key, nonce, data, ciphertext, tag, place)
-    } else {
-        Err(Refusal::KindMismatch)
+    match Kind::try_from(kind)? {
+        Kind::Sha256 => sealing::open::<Sha256>(key, nonce, data, ciphertext, tag, place),
+        Kind::Blake2b => sealing::open::<Blake2b>(key, nonce, data, ciphertext, tag, place),
     }
 }
