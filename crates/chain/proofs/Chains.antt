@@ -1,23 +1,13 @@
 -- Laws of chains, over the next numbers of any cells. Assumes nothing.
-use Rattle.std.proofs.Common.{◌≡◌, ℕ, zero, suc, ◌-◌, ◌<◌, ◌≤◌, true, false, eqb, ltb, ◌≢◌, List, [], ◌∷◌, map, length, get_or, set, sym, refl, ap, ◌∙◌, subst, arith, length-set, get_or-set_other, get_or-set_same}
+use Rattle.std.proofs.Common.{◌≡◌, ℕ, zero, suc, ◌-◌, ◌<◌, ◌≤◌, false, ◌≢◌, List, [], ◌∷◌, map, length, get_or, set, sym, refl, ap, ◌∙◌, subst, arith, length-set, get_or-set_other, get_or-set_same}
 use Rattle.std.proofs.lemmas.List.{length-map}
-use Rattle.std.proofs.lemmas.Bool.{eqb-false, ltb-false, or_parts, cond-true, cond-false}
+use Rattle.std.proofs.lemmas.Bool.{cond-false}
 use Rattle.std.proofs.lemmas.Bool.Decides.{nat_tests}
 use Rattle.chain.specs.Chain.{no_cell, next_of, relink_at, relink, Chain, Absent}
 
 -- A cell that has a number.
-pub numbered : (n i : ℕ) → no_cell n i ≡ false → (1 ≤ i) × (i ≤ n)
-numbered n i e = let p = or_parts (eqb i 0) (ltb n i) e in (omega (arith, eqb-false i 0 p.0), ltb-false n i p.1)
-
 pub has_number : (n i : ℕ) → 1 ≤ i → i ≤ n → no_cell n i ≡ false
 has_number n i one le = grind (arith, nat_tests)
-
--- No cell has the number i.
-pub outside : (n i : ℕ) → no_cell n i ≡ true → 1 ≤ i → n < i
-outside n i e one = grind (arith, nat_tests)
-
-pub next_none : {R : Type 0} (link : R → ℕ) (xs : List R) (i : ℕ) → no_cell (length xs) i ≡ true → ◌≡◌ {A = ℕ} 0 (next_of (map link xs) i)
-next_none link xs i e = sym (cond-true _ 0 (get_or (map link xs) (i - 1) 0) (ap (λ n. no_cell n i) (length-map xs link) ∙ e))
 
 pub next_in : (nexts : List ℕ) (i : ℕ) → 1 ≤ i → i ≤ length nexts → next_of nexts i ≡ get_or nexts (i - 1) 0
 next_in nexts i one le = cond-false _ 0 (get_or nexts (i - 1) 0) (has_number (length nexts) i one le)
@@ -89,9 +79,9 @@ chain_once nexts h x xs c =
     later_shorter nexts (get_or nexts (x - 1) 0) xs x (x ∷ xs) c.3 (subst F c.0 c) c.1 (omega arith)
 
 module _ {R : Type 0} (link : R → ℕ) (put : R → ℕ → R) (law : (x : R) (n : ℕ) → link (put x n) ≡ n) where
-  -- A cell is written back with another next number.
-  pub wrote : (xs : List R) (i n : ℕ) (d y : R) → 1 ≤ i → y ≡ put (get_or xs (i - 1) d) n → set xs (i - 1) y ≡ relink put xs i n
-  wrote xs i n d y one e = ap (set xs (i - 1)) e ∙ sym (relink_from_1 put xs i n one ∙ relink_set put xs (i - 1) n d)
+  -- The cell at a place is written back with another next number.
+  pub wrote : (xs : List R) (i n place : ℕ) (d y : R) → 1 ≤ i → place ≡ i - 1 → y ≡ put (get_or xs place d) n → set xs place y ≡ relink put xs i n
+  wrote xs i n place d y one at e = ap (set xs place) e ∙ sym (relink_set put xs place n d) ∙ ap (λ p. relink_at put xs p n) at ∙ sym (relink_from_1 put xs i n one)
 
   nexts_after : (xs ys : List R) (i n : ℕ) → 1 ≤ i → ys ≡ relink put xs i n → map link ys ≡ set (map link xs) (i - 1) n
   nexts_after xs ys i n one e = ap (map link) (e ∙ relink_from_1 put xs i n one) ∙ nexts_relink link put law xs (i - 1) n
@@ -111,10 +101,3 @@ module _ {R : Type 0} (link : R → ℕ) (put : R → ℕ → R) (law : (x : R) 
       let K : ℕ → Type 0 = λ g. Absent g cs in
       let N : ℕ → Type 0 = λ g. Chain (map link ys) g cs in
       (sym c.0, subst N (sym (next_in (map link xs) h one within)) (subst F (sym (nexts_after xs ys h n one e)) (chain_set (map link xs) _ cs h n one (subst K (sym c.0) (chain_once (map link xs) h x cs c)) (subst G (sym c.0) c.3))))
-
--- Where no cell has the number h, nothing is relinked, and no chain begins there.
-pub untouched : {R : Type 0} (put : R → ℕ → R) (xs : List R) (h n : ℕ) → no_cell (length xs) h ≡ true → xs ≡ relink put xs h n
-untouched put xs h n e = sym (relink_none put xs h n (outside (length xs) h e))
-
-pub no_first : {R : Type 0} (link : R → ℕ) (xs : List R) (h x : ℕ) (cs : List ℕ) → no_cell (length xs) h ≡ true → Chain (map link xs) h (x ∷ cs) → ⊥
-no_first link xs h x cs e c = let lt : length xs < h = outside (length xs) h e (omega (arith, c.0, c.1)) in omega (arith, c.0, c.2, length-map xs link)

@@ -24,34 +24,19 @@ pub trait Linked {
     ghost same: { (x : Self) → relinked x (link x) ≡ x };
 }
 
-// Whether none of `n` cells has the number `i`.
-fn no_cell(n: usize, i: u16) -> bool
-    ensures { result ≡ no_cell n i }
-{
-    i == 0 || i as usize > n
-}
-
-// The next number of cell `i`, or 0 where no cell has the number `i`.
-fn next_of<R: Linked>(cells: &[R], i: u16) -> u16
-    ensures { result ≡ next_of (map R.link cells.now) i }
-{
-    if no_cell(cells.len(), i) {
-        return 0;
-    }
-    cells[i as usize - 1].next()
-}
-
-// Gives cell `i` another next number, where a cell has the number `i`. It then stands in front of the chain from that
-// number, and the rest of a chain that it was first of is untouched.
-fn link_cell<R: Linked>(cells: &mut [R], i: u16, next: u16)
+// Gives cell `i` another next number and answers the one that it had, where a cell has the number `i`. It then stands in
+// front of the chain from the new number, and the rest of a chain that it was first of is untouched.
+fn link_cell<R: Linked>(cells: &mut [R], i: u16, next: u16) -> Option<u16>
+    ensures had { result ≡ (if no_cell (length cells.old) i then None else Some (next_of (map R.link cells.old) i)) }
     ensures links { cells.new ≡ relink R.relinked cells.old i next }
     ensures front { (xs : List ℕ) → no_cell (length cells.old) i ≡ false → Chain (map R.link cells.old) next xs → Absent i xs → Chain (map R.link cells.new) i (i ∷ xs) }
     ensures rest { (x : ℕ) (xs : List ℕ) → Chain (map R.link cells.old) i (x ∷ xs) → (x ≡ i) × Chain (map R.link cells.new) (next_of (map R.link cells.old) i) xs }
 {
-    if no_cell(cells.len(), i) {
-        return;
-    }
-    cells[i as usize - 1].set_next(next);
+    let place = usize::from(i).checked_sub(1)?;
+    let had = cells.get(place)?.next();
+    // by index: of a slice's `get_mut` a proof knows no element once the borrow is over
+    cells[place].set_next(next);
+    Some(had)
 }
 
 // Puts cell `i` in front of the chain from `head` and answers the new head. Where no cell has the number `i`, nothing
@@ -61,8 +46,10 @@ pub fn push_front<R: Linked>(cells: &mut [R], head: u16, i: u16) -> u16
     ensures links { cells.new ≡ relink R.relinked cells.old i head }
     ensures chain { (xs : List ℕ) → no_cell (length cells.old) i ≡ false → Chain (map R.link cells.old) head xs → Absent i xs → Chain (map R.link cells.new) i (i ∷ xs) }
 {
-    link_cell(cells, i, head);
-    if no_cell(cells.len(), i) { head } else { i }
+    match link_cell(cells, i, head) {
+        Some(_) => i,
+        None => head,
+    }
 }
 
 // Takes the first cell off the chain from `head`: answers its number and the new head, and the cell's next number is 0
@@ -72,11 +59,6 @@ pub fn pop_front<R: Linked>(cells: &mut [R], head: u16) -> Option<(u16, u16)>
     ensures links { cells.new ≡ relink R.relinked cells.old head 0 }
     ensures chain { (x : ℕ) (xs : List ℕ) → Chain (map R.link cells.old) head (x ∷ xs) → (x ≡ head) × Chain (map R.link cells.new) (next_of (map R.link cells.old) head) xs }
 {
-    let next = next_of(cells, head);
-    link_cell(cells, head, 0);
-    if no_cell(cells.len(), head) {
-        None
-    } else {
-        Some((head, next))
-    }
+    let next = link_cell(cells, head, 0)?;
+    Some((head, next))
 }

@@ -1,40 +1,53 @@
 -- What the code of each call does is the ledger's. Assumes nothing.
-use Rattle.std.proofs.Common.{◌≡◌, ℕ, ◌+◌, ◌-◌, ◌≤◌, List, length, get_or, set, Ok, sym, refl, ap, ◌∙◌, subst, ⊎_elim, add-one, arith, length-set}
+use Rattle.std.proofs.Common.{◌≡◌, ℕ, suc, ◌+◌, ◌-◌, ◌<◌, ◌≤◌, List, length, get_or, set, take, drop, Ok, sym, refl, ap, ◌∙◌, subst, ⊎_elim, add-one, arith, length-set}
 use mathlib.Core.Logic.{∥∥₁_elim, ∥∥₁_map}
 use native.Mathlib.Bridge.{le_prop}
-use Rattle.std.proofs.lemmas.List.{get_or-set_same, get_or-set_other}
+use Rattle.std.specs.List.{sum_by, zip}
+use Rattle.std.proofs.Math.Seq.{take-length}
+use Rattle.std.proofs.lemmas.List.{get_or-set_same, get_or-set_other, length-take-le, length-drop, get_or-take, get_or-drop}
+use Rattle.std.proofs.lemmas.Slice.Zip.{length-zip, get_or-zip}
+use Rattle.counter.specs.declared.station.Station.{Station}
 use Rattle.std.proofs.lemmas.Bool.{cases_eq}
 use Rattle.counter.specs.declared.tables.Row.{Row}
 use Rattle.counter.specs.declared.cell.Status.TheVariants.{Void}
 use Rattle.counter.specs.Cells.{no_station, station_of}
-use Rattle.counter.specs.Ledger.{Setting, Terms, Ledger, Numbers, Call, Reserve, GiveBack, Draw, VoidSlip, Answer, put, total, times, move, takes, taken_of, lacking_of, others_lack, after}
+use Rattle.counter.specs.Ledger.{Setting, Terms, Ledger, Numbers, Call, Reserve, GiveBack, Draw, VoidSlip, Answer, total, times, move, draw, voided, takes, taken_of, lacking_of, guarantee_of, others_lack, verdict, done, value, answer, after}
 use Rattle.counter.specs.Shown.{State, no_row, Shows, Counted, Keeps, Sound}
 use Rattle.counter.specs.History.{Step}
-use Rattle.counter.specs.Inside.{with_mark, Matches, Kept, Judges}
-use Rattle.counter.proofs.Sums.{put_at, put_same, put_other, total_same, count_most}
+use Rattle.counter.specs.Inside.{with_mark, drawn_out, Matches, Kept, Judges}
+use Rattle.counter.proofs.Sums.{total_list, count_most}
 use Rattle.counter.proofs.Marks.{mark_of, row_taken}
-use Rattle.counter.proofs.Ledgers.{move_many, reserve_mine, reserve_rest, give_mine, give_rest, draw_one, void_one}
-use Rattle.counter.proofs.Facts.{few, kept}
-use Rattle.counter.proofs.Moves.{drawn_out, draw_shows, void_shows}
+use Rattle.counter.proofs.Ledgers.{move_many, reserve_mine, reserve_rest, give_mine, give_rest, draw_one, void_one, lacking_split}
+use Rattle.counter.proofs.Moves.{draw_shows, void_shows}
 use Rattle.counter.proofs.Verdicts.{reserve_fits, give_fits, draw_fits, void_fits, accepts, done_fair}
 
--- What a station lacks, by the kept counts.
-abbrev pub lacking_shown : State → ℕ → ℕ
-lacking_shown s k = (station_of s.setting.table k).guarantee - get_or s.taken k 0
+stations_same : (o : Terms) (s : State) (l : Ledger) → Keeps o s l → s.setting.stations ≡ o.setting.stations
+stations_same o s l q = ap (λ (x : Setting). x.stations) q.shows.setting
 
-pub own_lack : (s : State) (k i own : ℕ) → own ≡ (get_or s.setting.table i no_station).guarantee - get_or s.taken (i + 1) 0 → (i + 1 ≡ k → ⊥) → own ≡ put (lacking_shown s) k 0 (i + 1)
-own_lack s k i own e ne =
-    let a : i ≡ i + 1 - 1 = omega arith in
-    e ∙ ap (λ j. (get_or s.setting.table j no_station).guarantee - get_or s.taken (i + 1) 0) a ∙ sym (put_other (lacking_shown s) k 0 (i + 1) ne)
+-- What the stations lack, by the kept counts: all of them, and the others.
+abbrev lack : Station × ℕ → ℕ
+lack p = p.0.guarantee - p.1
 
-pub others_shown : (o : Terms) (s : State) (l : Ledger) (k : ℕ) → Keeps o s l → total (put (lacking_shown s) k 0) s.setting.stations ≡ others_lack o l k
-others_shown o s l k q =
-    let F : Setting → ℕ → ℕ = λ x j. (station_of x.table j).guarantee - get_or s.taken j 0 in
-    let same : total (put (F s.setting) k 0) s.setting.stations ≡ total (put (F o.setting) k 0) o.setting.stations = ap (λ (x : Setting). total (put (F x) k 0) x.stations) q.shows.setting in
-    same ∙ total_same _ _ o.setting.stations (λ j low high.
-    put_at (λ n. n ≡ put (lacking_of o l) k 0 j) (F o.setting) k 0 j
-    (λ (e : j ≡ k). sym (ap (put (lacking_of o l) k 0) e ∙ put_same (lacking_of o l) k 0))
-    (λ (ne : j ≡ k → ⊥). ap (λ n. (station_of o.setting.table j).guarantee - n) (q.counted.counts j low high) ∙ sym (put_other (lacking_of o l) k 0 j ne)))
+pub others_shown : (o : Terms) (s : State) (l : Ledger) (k all own : ℕ) → Keeps o s l → 1 ≤ k → k ≤ s.setting.stations → all ≡ sum_by lack (zip (take s.setting.stations s.setting.table) (take 8 (drop 1 s.taken))) → own ≡ lack (station_of s.setting.table k, get_or s.taken k 0) → others_lack o l k + own ≡ all
+others_shown o s l k all own q one known all_is own_is =
+    let n = s.setting.stations in
+    let table = s.setting.table in
+    let ys = take 8 (drop 1 s.taken) in
+    let xs = zip (take n table) ys in
+    let same : n ≡ o.setting.stations = stations_same o s l q in
+    let tables : table ≡ o.setting.table = ap (λ (x : Setting). x.table) q.shows.setting in
+    let front : length (take n table) ≡ n = length-take-le n table (omega (arith, ap (λ (ts : List Station). length ts) tables, q.fair.tidy.seats)) in
+    let back : length ys ≡ 8 = length-take-le 8 (drop 1 s.taken) (omega (arith, length-drop 1 s.taken, q.counted.nine)) in
+    let long : length xs ≡ n = omega (arith, length-zip (take n table) ys, q.fair.tidy.few) in
+    let at : (j : ℕ) → 1 ≤ j → j ≤ n → lack (station_of table j, get_or s.taken j 0) ≡ lacking_of o l j = λ j low high. ap {B = ℕ} (λ ts. (station_of ts j).guarantee - get_or s.taken j 0) tables ∙ ap (λ m. guarantee_of o j - m) (q.counted.counts j low (omega arith)) in
+    let each : (i : ℕ) → i < n → lacking_of o l (suc i) ≡ lack (get_or xs i (no_station, 0)) = λ i lt.
+    let back_one : i ≡ suc i - 1 = omega arith in
+    let one_on : 1 + i ≡ suc i = omega arith in
+    let few : i < 8 = omega (arith, q.fair.tidy.few) in
+    let a : get_or (take n table) i no_station ≡ station_of table (suc i) = get_or-take n table i no_station lt ∙ ap (λ j. get_or table j no_station) back_one in
+    let b : get_or ys i 0 ≡ get_or s.taken (suc i) 0 = get_or-take 8 (drop 1 s.taken) i 0 few ∙ get_or-drop 1 s.taken i 0 ∙ ap (λ j. get_or s.taken j 0) one_on in
+    sym (at (suc i) (omega arith) (omega arith)) ∙ sym (ap {B = ℕ} lack (get_or-zip (take n table) ys i (no_station, 0) (omega arith) (omega arith)) ∙ ap {B = ℕ} (λ (t : Station). t.guarantee - get_or ys i 0) a ∙ ap (λ m. (station_of table (suc i)).guarantee - m) b) in
+    omega (arith, all_is, own_is, at k one known, total_list (lacking_of o l) lack xs (no_station, 0) n (omega arith) each, ap (λ m. sum_by lack (take m xs)) long, ap {B = ℕ} (sum_by lack) (take-length xs), lacking_split o l k one (omega arith), ap (total (lacking_of o l)) same)
 
 pub step_sound : (s : State) (c : Call) (a : Answer) (t : State) → ∥ Sound s ∥₁ → Step s c a t → ∥ Sound t ∥₁
 step_sound s c a t q e = ∥∥₁_map q (λ r. (r.0, after r.0 r.1 c, (e r.0 r.1 r.2).1))
@@ -43,58 +56,29 @@ step_sound s c a t q e = ∥∥₁_map q (λ r. (r.0, after r.0 r.1 c, (e r.0 r.
 pub matches : {o : Terms} {s : State} {l : Ledger} → Keeps o s l → Matches o s l
 matches q = record { tidy = q.fair.tidy; shows = q.shows }
 
-pub kept_after : (s u : State) (f : Ledger → Ledger) (i : ℕ) → ∥ Sound s ∥₁ → ((o : Terms) (l : Ledger) → Matches o s l → Matches o u (times i f l)) → ∥ Kept u ∥₁
-kept_after s u f i q inv = ∥∥₁_map q (λ r. (r.0, times i f r.1, inv r.0 r.1 (matches r.2)))
+pub kept_after : (s u : State) (f : Ledger → Ledger) (i : ℕ) → ∥ Kept s ∥₁ → ((o : Terms) (l : Ledger) → Matches o s l → Matches o u (times i f l)) → ∥ Kept u ∥₁
+kept_after s u f i q inv = ∥∥₁_map q (λ r. (r.0, times i f r.1, inv r.0 r.1 r.2))
 
 pub one_more : (o : Terms) (u : State) (f : Ledger → Ledger) (l : Ledger) (i : ℕ) → Matches o u (f (times i f l)) → Matches o u (times (i + 1) f l)
 one_more o u f l i m = subst (λ j. Matches o u (times j f l)) (sym (add-one i)) m
 
-stations_same : (o : Terms) (s : State) (l : Ledger) → Keeps o s l → s.setting.stations ≡ o.setting.stations
-stations_same o s l q = ap (λ (x : Setting). x.stations) q.shows.setting
-
-row_count : (o : Terms) (s : State) (l : Ledger) (j : ℕ) → Keeps o s l → j ≤ o.setting.stations → (get_or s.rows j no_row).count ≡ length (l.row j)
-row_count o s l j q known = ap (λ (r : Row). r.count) (q.shows.rows j known)
-
 -- What an accepted call leaves no doubt of.
-module _ (s : State) (q : ∥ Sound s ∥₁) where
-  pub reserve_safe : (k n : ℕ) → Judges s (Reserve k n) (Ok tt) → (1 ≤ k) × (k ≤ s.setting.stations) × (k ≤ 8) × (n ≤ (get_or s.rows 0 no_row).count) × (get_or s.taken k 0 + n ≤ 4096)
-  reserve_safe k n j =
-      let high : k ≤ s.setting.stations = ∥∥₁_elim q le_prop (λ r. omega (arith, (reserve_fits r.0 r.1 k n (sym (j r.0 r.1 r.2))).1, stations_same r.0 s r.1 r.2)) in (
-        ∥∥₁_elim q le_prop (λ r. (reserve_fits r.0 r.1 k n (sym (j r.0 r.1 r.2))).0),
-        high,
-        omega (arith, few s (kept s q)),
-        ∥∥₁_elim q le_prop (λ r. omega (arith, (reserve_fits r.0 r.1 k n (sym (j r.0 r.1 r.2))).4, row_count r.0 s r.1 0 r.2 (omega arith))),
-        ∥∥₁_elim q le_prop (λ r.
-            let f = reserve_fits r.0 r.1 k n (sym (j r.0 r.1 r.2)) in
-            let m = times n (move 0 k) r.1 in
-            let moves = move_many r.0 0 k (omega arith) r.1 r.2.fair.tidy n (omega arith) in
-            omega (arith, r.2.counted.counts k f.0 f.1, reserve_mine r.0 k n f.0 r.1 m moves, count_most (λ i. takes k (m.mark i)) r.0.codes, r.2.fair.tidy.small)),
-      )
+module _ (s : State) (q : ∥ Sound s ∥₁) (k n : ℕ) where
+  pub reserve_safe : Judges s (Reserve k n) (Ok tt) → (k ≤ 8) × (get_or s.taken k 0 + n ≤ 4096)
+  reserve_safe j = (
+    ∥∥₁_elim q le_prop (λ r. omega (arith, (reserve_fits r.0 r.1 k n (sym (j r.0 r.1 r.2))).1, r.2.fair.tidy.few)),
+    ∥∥₁_elim q le_prop (λ r.
+        let f = reserve_fits r.0 r.1 k n (sym (j r.0 r.1 r.2)) in
+        let m = times n (move 0 k) r.1 in
+        let moves = move_many r.0 0 k (omega arith) r.1 r.2.fair.tidy n (omega arith) in
+        omega (arith, r.2.counted.counts k f.0 f.1, reserve_mine r.0 k n f.0 r.1 m moves, count_most (λ i. takes k (m.mark i)) r.0.codes, r.2.fair.tidy.small)),
+  )
 
-  pub give_safe : (k n : ℕ) → Judges s (GiveBack k n) (Ok tt) → (1 ≤ k) × (k ≤ s.setting.stations) × (k ≤ 8) × (n ≤ (get_or s.rows k no_row).count) × (n ≤ get_or s.taken k 0) × (n ≤ 4096)
-  give_safe k n j =
-      let high : k ≤ s.setting.stations = ∥∥₁_elim q le_prop (λ r. omega (arith, (give_fits r.0 r.1 k n (sym (j r.0 r.1 r.2))).1, stations_same r.0 s r.1 r.2)) in (
-        ∥∥₁_elim q le_prop (λ r. (give_fits r.0 r.1 k n (sym (j r.0 r.1 r.2))).0),
-        high,
-        omega (arith, few s (kept s q)),
-        ∥∥₁_elim q le_prop (λ r. let f = give_fits r.0 r.1 k n (sym (j r.0 r.1 r.2)) in omega (arith, row_count r.0 s r.1 k r.2 f.1)),
-        ∥∥₁_elim q le_prop (λ r. let f = give_fits r.0 r.1 k n (sym (j r.0 r.1 r.2)) in omega (arith, r.2.counted.counts k f.0 f.1, r.2.fair.tidy.whole k, row_taken r.1.mark k r.0.codes f.0)),
-        ∥∥₁_elim q le_prop (λ r. let f = give_fits r.0 r.1 k n (sym (j r.0 r.1 r.2)) in omega (arith, r.2.fair.tidy.whole k, row_taken r.1.mark k r.0.codes f.0, count_most (λ i. takes k (r.1.mark i)) r.0.codes, r.2.fair.tidy.small)),
-      )
-
-  pub draw_safe : (k : ℕ) → Judges s (Draw k) (Ok tt) → (1 ≤ k) × (k ≤ s.setting.stations) × (k ≤ 8) × (1 ≤ (get_or s.rows k no_row).count)
-  draw_safe k j =
-      let high : k ≤ s.setting.stations = ∥∥₁_elim q le_prop (λ r. omega (arith, (draw_fits r.0 r.1 k (sym (j r.0 r.1 r.2))).1, stations_same r.0 s r.1 r.2)) in (
-        ∥∥₁_elim q le_prop (λ r. (draw_fits r.0 r.1 k (sym (j r.0 r.1 r.2))).0),
-        high,
-        omega (arith, few s (kept s q)),
-        ∥∥₁_elim q le_prop (λ r. let f = draw_fits r.0 r.1 k (sym (j r.0 r.1 r.2)) in omega (arith, row_count r.0 s r.1 k r.2 f.1)),
-      )
-
-  pub void_safe : (p : Numbers) → Judges s (VoidSlip p) (Ok tt) → (1 ≤ p.code) × (p.code ≤ length s.cells)
-  void_safe p j = (
-    ∥∥₁_elim q le_prop (λ r. (void_fits r.0 r.1 p (sym (j r.0 r.1 r.2))).2),
-    ∥∥₁_elim q le_prop (λ r. let f = void_fits r.0 r.1 p (sym (j r.0 r.1 r.2)) in omega (arith, r.2.shows.size, r.2.fair.tidy.lent (omega arith))),
+  pub give_safe : Judges s (GiveBack k n) (Ok tt) → (k ≤ 8) × (n ≤ get_or s.taken k 0) × (n ≤ 4096)
+  give_safe j = (
+    ∥∥₁_elim q le_prop (λ r. omega (arith, (give_fits r.0 r.1 k n (sym (j r.0 r.1 r.2))).1, r.2.fair.tidy.few)),
+    ∥∥₁_elim q le_prop (λ r. let f = give_fits r.0 r.1 k n (sym (j r.0 r.1 r.2)) in omega (arith, r.2.counted.counts k f.0 f.1, r.2.fair.tidy.whole k, row_taken r.1.mark k r.0.codes f.0)),
+    ∥∥₁_elim q le_prop (λ r. let f = give_fits r.0 r.1 k n (sym (j r.0 r.1 r.2)) in omega (arith, r.2.fair.tidy.whole k, row_taken r.1.mark k r.0.codes f.0, count_most (λ i. takes k (r.1.mark i)) r.0.codes, r.2.fair.tidy.small)),
   )
 
 -- The counts of taken codes, where one station's changes.
@@ -116,60 +100,53 @@ counted_set o ts l m k v le c here rest = record {
 counted_same : (o : Terms) (ts : List ℕ) (l m : Ledger) → Counted o ts l → ((j : ℕ) → taken_of o m j ≡ taken_of o l j) → Counted o ts m
 counted_same o ts l m c same = record { nine = c.nine; counts = λ j low high. c.counts j low high ∙ sym (same j) }
 
+-- An accepted call that moved codes from row to row: v is what station k has taken then.
+moved_step : (o : Terms) (s u : State) (l : Ledger) (c : Call) (k v x : ℕ) → u.taken ≡ s.taken → x ≡ (get_or u.rows 0 no_row).count → verdict o l c ≡ Ok tt → Keeps o s l → Shows o u (done l c) → value l c ≡ length ((done l c).row 0) → k ≤ o.setting.stations
+    → (get_or s.taken k 0 ≡ taken_of o l k → v ≡ taken_of o (done l c) k) → 1 ≤ k → ((j : ℕ) → (j ≡ k → ⊥) → taken_of o (done l c) j ≡ taken_of o l j)
+    → (◌≡◌ {A = Answer} (Ok x) (answer o l c)) × Keeps o (with_taken u (set u.taken k v)) (after o l c)
+moved_step o s u l c k v x same is e q shown free known here one rest =
+    accepts o l c x _ e (is ∙ ap (λ (w : Row). w.count) (shown.rows 0 (omega arith)) ∙ sym free) (record {
+      fair = done_fair o l c q.fair e;
+      shows = shows_taken o u (done l c) _ shown;
+      counted = counted_set o u.taken l (done l c) k v (omega (arith, q.fair.tidy.few)) (subst (λ ts. Counted o ts l) (sym same) q.counted) (here (q.counted.counts k one known)) rest;
+    })
+
 -- The calls.
-module _ (s : State) (k n : ℕ) (u : State) (i : ℕ) (le : n ≤ i) (ge : i ≤ n) (kept_taken : u.taken ≡ s.taken) where
-  pub reserve_steps : Judges s (Reserve k n) (Ok tt) → ((o : Terms) (l : Ledger) → Matches o s l → Matches o u (times i (move 0 k) l))
-      → Step s (Reserve k n) (Ok (get_or u.rows 0 no_row).count) (with_taken u (set u.taken k (get_or u.taken k 0 + n)))
-  reserve_steps judged inv o l q =
+module _ (s : State) (k n : ℕ) (u : State) (x : ℕ) (same : u.taken ≡ s.taken) (is : x ≡ (get_or u.rows 0 no_row).count) where
+  pub reserve_steps : Judges s (Reserve k n) (Ok tt) → ((o : Terms) (l : Ledger) → Matches o s l → Matches o u (times n (move 0 k) l))
+      → Step s (Reserve k n) (Ok x) (with_taken u (set u.taken k (get_or u.taken k 0 + n)))
+  reserve_steps judged moves o l q =
       let e = sym (judged o l q) in
       let f = reserve_fits o l k n e in
-      let m = times n (move 0 k) l in
-      let same : i ≡ n = omega arith in
-      let shown = (subst (λ j. Matches o u (times j (move 0 k) l)) same (inv o l (matches q))).shows in
       let r = move_many o 0 k (omega arith) l q.fair.tidy n (omega arith) in
-      let was : Counted o u.taken l = subst (λ ts. Counted o ts l) (sym kept_taken) q.counted in
-      let mine : get_or u.taken k 0 + n ≡ taken_of o m k = omega (arith, was.counts k f.0 f.1, reserve_mine o k n f.0 l m r) in
-      accepts o l (Reserve k n) _ _ e (ap (λ (w : Row). w.count) (shown.rows 0 (omega arith))) (record {
-        fair = done_fair o l (Reserve k n) q.fair e;
-        shows = shows_taken o u m _ shown;
-        counted = counted_set o u.taken l m k _ (omega (arith, q.fair.tidy.few)) was mine (reserve_rest o k n f.0 l m r);
-      })
+      moved_step o s u l (Reserve k n) k _ x same is e q (moves o l (matches q)).shows refl f.1 (λ was. omega (arith, ap (λ ts. get_or ts k 0) same, reserve_mine o k n f.0 l _ r)) f.0 (reserve_rest o k n f.0 l _ r)
 
-  pub give_steps : Judges s (GiveBack k n) (Ok tt) → ((o : Terms) (l : Ledger) → Matches o s l → Matches o u (times i (move k 0) l))
-      → Step s (GiveBack k n) (Ok (get_or u.rows 0 no_row).count) (with_taken u (set u.taken k (get_or u.taken k 0 - n)))
-  give_steps judged inv o l q =
+  pub give_steps : Judges s (GiveBack k n) (Ok tt) → ((o : Terms) (l : Ledger) → Matches o s l → Matches o u (times n (move k 0) l))
+      → Step s (GiveBack k n) (Ok x) (with_taken u (set u.taken k (get_or u.taken k 0 - n)))
+  give_steps judged moves o l q =
       let e = sym (judged o l q) in
       let f = give_fits o l k n e in
-      let m = times n (move k 0) l in
-      let same : i ≡ n = omega arith in
-      let shown = (subst (λ j. Matches o u (times j (move k 0) l)) same (inv o l (matches q))).shows in
       let r = move_many o k 0 (omega arith) l q.fair.tidy n f.3 in
-      let was : Counted o u.taken l = subst (λ ts. Counted o ts l) (sym kept_taken) q.counted in
-      let mine : get_or u.taken k 0 - n ≡ taken_of o m k = omega (arith, was.counts k f.0 f.1, give_mine o k n f.0 l m r) in
-      accepts o l (GiveBack k n) _ _ e (ap (λ (w : Row). w.count) (shown.rows 0 (omega arith))) (record {
-        fair = done_fair o l (GiveBack k n) q.fair e;
-        shows = shows_taken o u m _ shown;
-        counted = counted_set o u.taken l m k _ (omega (arith, q.fair.tidy.few)) was mine (give_rest o k n f.0 l m r);
-      })
+      moved_step o s u l (GiveBack k n) k _ x same is e q (moves o l (matches q)).shows refl f.1 (λ was. omega (arith, ap (λ ts. get_or ts k 0) same, give_mine o k n f.0 l _ r)) f.0 (give_rest o k n f.0 l _ r)
 
-pub draw_steps : (s : State) (k : ℕ) → Judges s (Draw k) (Ok tt) → Step s (Draw k) (Ok (get_or s.rows k no_row).head) (drawn_out s k)
-draw_steps s k judged o l q =
+pub draw_steps : (s u : State) (k x : ℕ) → Judges s (Draw k) (Ok tt) → x ≡ (get_or s.rows k no_row).head → u ≡ drawn_out s k → Step s (Draw k) (Ok x) u
+draw_steps s u k x judged code after o l q =
     let e = sym (judged o l q) in
     let f = draw_fits o l k e in
     let r = draw_one o l q.fair.tidy k f.0 f.2 in
-    accepts o l (Draw k) _ _ e (ap (λ (w : Row). w.head) (q.shows.rows k f.1)) (record {
+    accepts o l (Draw k) x u e (code ∙ ap (λ (w : Row). w.head) (q.shows.rows k f.1)) (subst (λ t. Keeps o t (draw k l)) (sym after) (record {
       fair = done_fair o l (Draw k) q.fair e;
       shows = draw_shows o s l q.fair.tidy q.shows (omega arith) k f.0 f.1 f.2;
       counted = counted_same o s.taken l _ q.counted r.taken;
-    })
+    }))
 
-pub void_steps : (s : State) (p : Numbers) → Judges s (VoidSlip p) (Ok tt) → Step s (VoidSlip p) (Ok p.code) (with_mark s p.code (mark_of Void p.station))
-void_steps s p judged o l q =
+pub void_steps : (s u : State) (p : Numbers) (x : ℕ) → Judges s (VoidSlip p) (Ok tt) → x ≡ p.code → u ≡ with_mark s p.code (mark_of Void p.station) → Step s (VoidSlip p) (Ok x) u
+void_steps s u p x judged code after o l q =
     let e = sym (judged o l q) in
     let f = void_fits o l p e in
     let r = void_one o l q.fair.tidy p.code p.station f.2 f.3 f.4 in
-    accepts o l (VoidSlip p) _ _ e refl (record {
+    accepts o l (VoidSlip p) x u e code (subst (λ t. Keeps o t (voided p.code p.station l)) (sym after) (record {
       fair = done_fair o l (VoidSlip p) q.fair e;
       shows = void_shows o s l q.fair.tidy q.shows (omega arith) p.code p.station f.2 f.3 f.4;
       counted = counted_same o s.taken l _ q.counted r.taken;
-    })
+    }))

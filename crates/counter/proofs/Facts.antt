@@ -1,5 +1,5 @@
 -- What the code needs to know of its tables to be safe. Assumes nothing.
-use Rattle.std.proofs.Common.{◌≡◌, ℕ, zero, suc, ◌≤◌, false, eqb, ltb, List, [], ◌∷◌, length, get_or, sym, ap, arith}
+use Rattle.std.proofs.Common.{◌≡◌, ℕ, zero, suc, ◌≤◌, false, eqb, ltb, List, [], ◌∷◌, length, get_or, ap, arith}
 use mathlib.Core.Logic.{∥∥₁_elim, ∥∥₁_map}
 use native.Mathlib.Bridge.{le_prop}
 use Rattle.std.proofs.lemmas.Bool.{eqb-false, ltb-false, or_parts}
@@ -33,9 +33,6 @@ module _ (s : State) (q : ∥ Kept s ∥₁) where
   pub few : s.setting.stations ≤ 8
   few = ∥∥₁_elim q le_prop (λ r. omega (arith, ap stations_of r.2.shows.setting, r.2.tidy.few))
 
-  pub seats : s.setting.stations ≤ length s.setting.table
-  seats = ∥∥₁_elim q le_prop (λ r. omega (arith, ap stations_of r.2.shows.setting, ap (λ (x : Setting). length x.table) r.2.shows.setting, r.2.tidy.seats))
-
   pub nine_rows : 9 ≤ length s.rows
   nine_rows = ∥∥₁_elim q le_prop (λ r. omega (arith, r.2.shows.nine.0))
 
@@ -55,7 +52,3 @@ module _ (s : State) (q : ∥ Kept s ∥₁) where
           let e = r.2.shows.rows j (omega (arith, m)) in
           let f = first_in _ _ _ (r.1.row j) (omega (arith, ap (λ (w : Row). w.count) e)) (r.2.tidy.listed j) in
           omega (arith, ap (λ (w : Row). w.head) e, f.1, r.2.shows.size, r.2.tidy.lent (omega (arith, m))))
-
--- A station whose number is in the table.
-pub in_table : (s : State) → ∥ Sound s ∥₁ → (k : ℕ) → false ≡ outside s.setting.stations k → (1 ≤ k) × (k ≤ s.setting.stations) × (k ≤ 8) × (k ≤ length s.setting.table)
-in_table s q k e = let p = inside s.setting.stations k (sym e) in (p.0, p.1, omega (arith, few s (kept s q)), omega (arith, seats s (kept s q)))

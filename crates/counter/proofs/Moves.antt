@@ -11,7 +11,7 @@ use Rattle.counter.specs.declared.cell.Status.TheVariants.{Drawn, Void}
 use Rattle.counter.specs.Cells.{blank_code, code_cell, in_a_row}
 use Rattle.counter.specs.Ledger.{Setting, Terms, Ledger, put, row_mark, moved, move, drawn_from, draw, voided}
 use Rattle.counter.specs.Shown.{State, no_row, row_of, cell_with, cell_of, kept_row, Shows, Listed, Tidy}
-use Rattle.counter.specs.Inside.{with_mark, with_row, Matches}
+use Rattle.counter.specs.Inside.{with_mark, with_row, drawn_at, drawn_out, Matches}
 use Rattle.counter.proofs.Sums.{put_at, put_same, put_other}
 use Rattle.counter.proofs.Marks.{mark_of, row_waits}
 use Rattle.counter.proofs.Facts.{one_of}
@@ -30,19 +30,6 @@ shifted_at s a b x = record {
 
 abbrev pub shifted : State → ℕ → ℕ → State
 shifted s a b = shifted_at s a b (get_or s.rows a no_row).head
-
-abbrev pub drawn_at : State → ℕ → ℕ → State
-drawn_at s k x = record {
-  setting = s.setting;
-  cells = set s.cells (x - 1) (record { status = Drawn; station = k; next = 0 });
-  register = s.register;
-  rows = set s.rows k (record { head = (code_cell s.cells x).next; count = (get_or s.rows k no_row).count - 1 });
-  taken = s.taken;
-  newest = s.newest;
-}
-
-abbrev pub drawn_out : State → ℕ → State
-drawn_out s k = drawn_at s k (get_or s.rows k no_row).head
 
 -- Followers.
 pub follows_first : (x : ℕ) (xs : List ℕ) → follower (x ∷ xs) x ≡ first xs

@@ -1,6 +1,9 @@
 -- A block as it is checked and opened. Assumes nothing.
-use Rattle.std.proofs.Common.{◌≡◌, ℕ, zero, suc, ◌+◌, ◌-◌, ◌<◌, ◌≤◌, Bool, false, cond, ◌||◌, eqb, ltb, List, [], ◌∷◌, length, get_or, replicate, Ok, Err, sym, refl, ap, ◌∙◌, subst, ⊎_elim, add-one, arith}
+use Rattle.std.proofs.Common.{◌≡◌, ℕ, zero, suc, ◌+◌, ◌-◌, ◌<◌, ◌≤◌, Bool, false, cond, ◌||◌, eqb, ltb, List, [], ◌∷◌, length, get_or, take, replicate, Ok, Err, sym, refl, ap, ◌∙◌, subst, ⊎_elim, add-one, arith}
 use lib.ListN.{get_or-replicate}
+use Rattle.std.specs.List.{list_any, sum_by}
+use Rattle.std.proofs.Math.Seq.{take-length}
+use Rattle.std.proofs.lemmas.List.Folds.{list_any_more}
 use Rattle.std.proofs.lemmas.Bool.{cases_eq, eqb-false, ltb-false, ne_eqb, le-ltb, or_from, or_parts, cond-false}
 use Rattle.std.proofs.lemmas.Bool.Decides.{nat_tests}
 use Rattle.chain.specs.Chain.{Absent, first, follower}
@@ -17,31 +20,33 @@ use Rattle.counter.specs.Opened.{Given, no_size, breaks, some_breaks, unfit, che
 use Rattle.counter.specs.Shown.{State, no_row, cell_of, kept_row, belongs, Listed, Tidy, Fair, Keeps, Sound}
 use Rattle.counter.specs.History.{Opened}
 use Rattle.counter.specs.Inside.{InOrder, Blank, new_state}
-use Rattle.counter.proofs.Sums.{put_at, put_other, total_same, total_none, total_more}
+use Rattle.counter.proofs.Sums.{put_at, put_other, total_same, total_none, total_list}
 use Rattle.counter.proofs.Marks.{belongs_elsewhere}
 use Rattle.counter.proofs.Moves.{follows_first, follows_later}
 use Rattle.counter.proofs.Verdicts.{clear}
 use Rattle.counter.proofs.Histories.{law}
 
--- The loop over the table.
-next_station : (ts : List Station) (i : ℕ) → get_or ts i no_station ≡ station_of ts (i + 1)
-next_station ts i = let e : i ≡ i + 1 - 1 = omega arith in ap (λ j. get_or ts j no_station) e
+-- The rule of the station table, station by station.
+module _ (ts : List Station) where
+  -- the next one
+  next_station : (m : ℕ) → station_of ts (suc m) ≡ get_or ts m no_station
+  next_station m = let e : suc m - 1 ≡ m = omega arith in ap (λ j. get_or ts j no_station) e
 
-pub breaks_more : (n : ℕ) (ts : List Station) (i : ℕ) (b x : Bool) → b ≡ some_breaks n ts i → x ≡ breaks n (get_or ts i no_station) → (b || x) ≡ some_breaks n ts (i + 1)
-breaks_more n ts i b x e h =
-    let a : i + 1 ≡ suc i = add-one i in
-    let here : x ≡ breaks n (station_of ts (suc i)) = h ∙ ap (breaks n) (next_station ts i) ∙ ap (λ j. breaks n (station_of ts j)) a in
-    ap (λ c. c || x) e ∙ ap (λ c. some_breaks n ts i || c) here ∙ ap (some_breaks n ts) (sym a)
+  breaks_upto : (n m : ℕ) → m ≤ length ts → some_breaks n ts m ≡ list_any (breaks n) (take m ts)
+  breaks_upto n zero le = refl
+  breaks_upto n (suc m) le =
+      ap (λ b. b || breaks n (station_of ts (suc m))) (breaks_upto n m (omega arith)) ∙ ap (λ s. list_any (breaks n) (take m ts) || breaks n s) (next_station m)
+      ∙ sym (list_any_more (breaks n) ts m no_station (omega arith)) ∙ ap (λ j. list_any (breaks n) (take j ts)) (add-one m)
 
-pub guarantee_more : (ts : List Station) (i sum : ℕ) → sum ≡ total (λ k. (station_of ts k).guarantee) i → sum + (get_or ts i no_station).guarantee ≡ total (λ k. (station_of ts k).guarantee) (i + 1)
-guarantee_more ts i sum e = total_more (λ k. (station_of ts k).guarantee) i sum _ e (ap (λ (s : Station). s.guarantee) (next_station ts i))
-
-pub unfit_is : (n : ℕ) (ts : List Station) (b : Bool) (sum i : ℕ) → (length ts ≡ 0 → ⊥) → length ts ≤ 8 → i ≡ length ts → b ≡ some_breaks n ts i → sum ≡ total (λ k. (station_of ts k).guarantee) i → (b || ltb n sum) ≡ unfit n ts
-unfit_is n ts b sum i some few e p q =
-    let sizes : (eqb (length ts) 0 || ltb 8 (length ts)) ≡ false = or_from _ _ (ne_eqb (length ts) 0 some) (le-ltb 8 (length ts) few) in
-    let p' : b ≡ some_breaks n ts (length ts) = p ∙ ap (some_breaks n ts) e in
-    let q' : sum ≡ total (λ k. (station_of ts k).guarantee) (length ts) = q ∙ ap (total (λ k. (station_of ts k).guarantee)) e in
-    ap (λ c. c || ltb n sum) p' ∙ ap (λ s. some_breaks n ts (length ts) || ltb n s) q' ∙ ap (λ c. c || (some_breaks n ts (length ts) || ltb n (total (λ k. (station_of ts k).guarantee) (length ts)))) (sym sizes)
+  pub unfit_is : (n : ℕ) (b : Bool) → eqb (length ts) 0 ≡ false → length ts ≤ 8 → b ≡ list_any (breaks n) ts → (b || ltb n (sum_by (λ (s : Station). s.guarantee) ts)) ≡ unfit n ts
+  unfit_is n b some few broken =
+      let sizes : (eqb (length ts) 0 || ltb 8 (length ts)) ≡ false = or_from _ _ some (le-ltb 8 (length ts) few) in
+      let F : List Station → List Station → Bool = λ xs ys. list_any (breaks n) xs || ltb n (sum_by (λ (s : Station). s.guarantee) ys) in
+      ap (λ c. c || ltb n (sum_by (λ (s : Station). s.guarantee) ts)) broken ∙ sym (
+      ap (λ c. c || (some_breaks n ts (length ts) || ltb n (total (λ k. (station_of ts k).guarantee) (length ts)))) sizes
+      ∙ ap (λ b. b || ltb n (total (λ k. (station_of ts k).guarantee) (length ts))) (breaks_upto n (length ts) (omega arith))
+      ∙ ap (λ m. list_any (breaks n) (take (length ts) ts) || ltb n m) (total_list (λ k. (station_of ts k).guarantee) (λ (s : Station). s.guarantee) ts no_station (length ts) (omega arith) (λ m _. ap (λ (s : Station). s.guarantee) (next_station m)))
+      ∙ ap (λ xs. F xs xs) (take-length ts))
 
 -- Runs of numbers.
 run_length : (i n : ℕ) → length (run i n) ≡ n
@@ -160,13 +165,6 @@ fitting n ts e =
     let q = or_parts (eqb (length ts) 0) (ltb 8 (length ts)) p.0 in
     let r = or_parts (some_breaks n ts (length ts)) _ p.1 in
     (ltb-false 8 (length ts) q.1, ltb-false n (total (λ k. (station_of ts k).guarantee) (length ts)) r.1)
-
-pub admitted_small : (g : Given) → Ok tt ≡ check_verdict g → (1 ≤ length g.codes) × (length g.codes ≤ 4096) × (length g.stations ≤ 8)
-admitted_small g e =
-    let a = clear _ _ _ (sym e) in
-    let b = clear _ _ _ a.1 in
-    let c = sizes (length g.codes) a.0 in
-    (c.0, c.1, (fitting (length g.codes) g.stations b.0).0)
 
 pub admitted_opened : (g : Given) (cells : List CodeCell) (register : List RegisterCell) → Ok tt ≡ check_verdict g → length cells ≡ length g.codes → length register ≡ length g.register → InOrder cells → Blank register
     → Opened g (new_state (admitted g (length g.codes) (length g.stations)).setting cells register (record { head = 1; count = length g.codes }))

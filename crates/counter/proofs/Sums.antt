@@ -1,6 +1,8 @@
 -- Functions that are changed at one number, sums, and counts. Assumes nothing.
-use Rattle.std.proofs.Common.{◌≡◌, ℕ, zero, suc, ◌+◌, ◌<◌, ◌≤◌, Bool, true, false, cond, eqb, ◌≢◌, sym, refl, ap, subst, ⊎_elim, add-one, arith}
+use Rattle.std.proofs.Common.{◌≡◌, ℕ, zero, suc, ◌+◌, ◌<◌, ◌≤◌, Bool, true, false, cond, eqb, ◌≢◌, List, length, get_or, take, sym, refl, ap, subst, ⊎_elim, add-one, arith}
 use Rattle.std.proofs.lemmas.Bool.{eqb-true, eqb-false, eq-eqb, ne_eqb, cond-true, cond-false, cond_both, cases_eq}
+use Rattle.std.specs.List.{sum_by}
+use Rattle.std.proofs.lemmas.List.Sums.{sum_by_more}
 use Rattle.counter.specs.Ledger.{put, total, count}
 
 pub put_at : {A : Type 0} (P : A → Type 0) (f : ℕ → A) (k : ℕ) (a : A) (j : ℕ) → (j ≡ k → P a) → ((j ≡ k → ⊥) → P (f j)) → P (put f k a j)
@@ -42,8 +44,10 @@ pub total_none : (m : ℕ) → total (λ _. 0) m ≡ 0
 total_none zero = refl
 total_none (suc m) = omega (arith, total_none m)
 
-pub total_more : (f : ℕ → ℕ) (i sum own : ℕ) → sum ≡ total f i → own ≡ f (i + 1) → sum + own ≡ total f (i + 1)
-total_more f i sum own e h = let a : i + 1 ≡ suc i = add-one i in subst (λ j. sum + own ≡ total f j) (sym a) (omega (arith, e, h, ap f a))
+-- A sum over a list, by places.
+pub total_list : {A : Type 0} (f : ℕ → ℕ) (g : A → ℕ) (xs : List A) (d : A) (m : ℕ) → m ≤ length xs → ((i : ℕ) → i < m → f (suc i) ≡ g (get_or xs i d)) → total f m ≡ sum_by g (take m xs)
+total_list f g xs d zero le e = refl
+total_list f g xs d (suc m) le e = omega (arith, total_list f g xs d m (omega arith) (λ i lt. e i (omega arith)), e m (omega arith), sum_by_more g xs m d (omega arith), ap (λ j. sum_by g (take j xs)) (add-one m))
 
 pub count_most : (test : ℕ → Bool) (m : ℕ) → count test m ≤ m
 count_most test zero = omega arith

@@ -3,7 +3,7 @@ use Rattle.std.specs.Prelude.{◌≡◌, ℕ, ◌+◌, ◌-◌, ◌<◌, Bool, c
 use Rattle.refusal.specs.Verdict.{Verdict}
 use Rattle.counter.specs.declared.cell.CodeCell.{CodeCell}
 use Rattle.counter.specs.declared.cell.RegisterCell.{RegisterCell}
-use Rattle.counter.specs.declared.cell.Status.TheVariants.{Free}
+use Rattle.counter.specs.declared.cell.Status.TheVariants.{Free, Drawn}
 use Rattle.counter.specs.declared.tables.Row.{Row}
 use Rattle.counter.specs.Cells.{is_drawn, blank_code, blank_record, outside, code_cell}
 use Rattle.counter.specs.Ledger.{Setting, Terms, Mark, Ledger, Call, verdict}
@@ -35,6 +35,20 @@ with_mark s x m = record { setting = s.setting; cells = slice_set s.cells (x - 1
 -- The block with something else kept of row j.
 abbrev pub with_row : State → ℕ → Row → State
 with_row s j r = record { setting = s.setting; cells = s.cells; register = s.register; rows = slice_set s.rows j r; taken = s.taken; newest = s.newest }
+
+-- The block after code x of station k's row was drawn, and after the first code of the row was.
+abbrev pub drawn_at : State → ℕ → ℕ → State
+drawn_at s k x = record {
+  setting = s.setting;
+  cells = slice_set s.cells (x - 1) (record { status = Drawn; station = k; next = 0 });
+  register = s.register;
+  rows = slice_set s.rows k (record { head = (code_cell s.cells x).next; count = (slice_index_or s.rows k no_row).count - 1 });
+  taken = s.taken;
+  newest = s.newest;
+}
+
+abbrev pub drawn_out : State → ℕ → State
+drawn_out s k = drawn_at s k (slice_index_or s.rows k no_row).head
 
 -- In the midst of a call: the tables show the ledger, but for the counts of taken codes.
 pub record Matches (o : Terms) (s : State) (l : Ledger) : Type 0 where

@@ -4,6 +4,7 @@ use Rattle.refusal.specs.declared.Refusal.TheVariants.{CodeCount, StationTable, 
 use Rattle.refusal.specs.Verdict.{Verdict, judged}
 use Rattle.counter.specs.declared.cell.CodeCell.{CodeCell}
 use Rattle.counter.specs.declared.cell.RegisterCell.{RegisterCell}
+use Rattle.counter.specs.declared.opening.Opening.{Opening}
 use Rattle.counter.specs.declared.station.Station.{Station}
 use Rattle.counter.specs.Cells.{station_of}
 use Rattle.counter.specs.Ledger.{Terms, total}
@@ -19,6 +20,10 @@ pub record Given : Type 0 where
   pub codes : List CodeCell
   pub register : List RegisterCell
   pub stations : List Station
+
+-- What an opening gives, under a compression of this kind with keys of such lengths.
+abbrev pub given : (kind shortest longest : ℕ) → Opening → Given
+given kind shortest longest x = record { kind = kind; shortest = shortest; longest = longest; site = x.site; number = x.block; key = x.key.now; codes = x.codes.now; register = x.register.now; stations = x.stations.now }
 
 -- No cells, or more than 4,096.
 abbrev pub no_size : ℕ → Bool

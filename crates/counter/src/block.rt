@@ -1,13 +1,18 @@
 // The block: codes 1 to N, reserved, drawn and voided by its stations. Where a call is refused, nothing changes.
-ghost use Rattle.std.specs.Prelude.{◌≡◌, ◌≤◌, MatchResult};
-ghost use Rattle.counter.specs.Ledger.{tally_of, latest_of, Reserve, GiveBack, Draw, VoidSlip};
+ghost use Rattle.std.specs.Prelude.{◌≡◌, ◌≤◌, true, false, length, MatchResult};
+ghost use Rattle.refusal.specs.declared.Refusal.TheVariants.{UnknownStation};
+ghost use Rattle.counter.specs.Cells.{outside};
+ghost use Rattle.counter.specs.Ledger.{others_lack, tally_of, latest_of, Reserve, GiveBack, Draw, VoidSlip};
+ghost use Rattle.counter.specs.Opened.{given};
 ghost use Rattle.counter.specs.Shown.{view, Sound};
 ghost use Rattle.counter.specs.Examples.{ExamplesHold};
 ghost use Rattle.counter.specs.History.{Opened, Step, Looks, numbers, slip_of, drawn_code};
+ghost use Rattle.counter.specs.Inside.{Judges};
 
-use crate::cell::{CodeCell, RegisterCell};
+use crate::cell::{CodeCell, RegisterCell, Status};
+use crate::opening::Opening;
 use crate::slip::Slip;
-use crate::station::Station;
+use crate::station::{Station, lacking};
 use crate::tables::Tables;
 use compression::Compression;
 use refusal::Refusal;
@@ -22,34 +27,156 @@ pub struct Block<'k, 'c, 'r, 's> {
 impl<'k, 'c, 'r, 's> Block<'k, 'c, 'r, 's> {
     // Opens a block over what is lent to it: all codes free, in order, and the register zero. Where `check` would refuse,
     // the block has no code and no station, and what was lent stays as it was.
-    pub fn open<C: Compression>(
-        site: u32,
-        block: u32,
-        key: &'k [u8],
-        codes: &'c mut [CodeCell],
-        register: &'r mut [RegisterCell],
-        stations: &'s [Station],
-    ) -> Block<'k, 'c, 'r, 's>
-        ensures opened { Opened (record { kind = C.Compression.KIND; shortest = C.Compression.SHORTEST_KEY; longest = C.Compression.LONGEST_KEY; site = site; number = block; key = key.now; codes = codes.old; register = register.old; stations = stations.now }) (view result.t) }
+    pub fn open<C: Compression>(opening: Opening<'k, 'c, 'r, 's>) -> Block<'k, 'c, 'r, 's>
+        ensures opened { Opened (given C.Compression.KIND C.Compression.SHORTEST_KEY C.Compression.LONGEST_KEY opening.entry) (view result.t) }
         ensures examples { ExamplesHold }
     {
         Block {
-            t: Tables::open::<C>(site, block, key, codes, register, stations),
+            t: Tables::open::<C>(opening),
         }
+    }
+
+    // The number of a station that takes part.
+    fn known(&self, station: u32) -> Result<usize, Refusal>
+        ensures { MatchResult result (λ k. (k ≡ station) × (outside self.now.t.stations station ≡ false) × (1 ≤ k) × (k ≤ 8) × (k ≤ self.now.t.stations) × (k ≤ length self.now.t.table.now)) (λ r. (r ≡ UnknownStation) × (outside self.now.t.stations station ≡ true)) }
+    {
+        if station == 0 || station > u32::from(self.t.stations) {
+            return Err(Refusal::UnknownStation);
+        }
+        Ok(station as usize)
+    }
+
+    // What the stations other than station `k` lack of their guarantees.
+    fn others_lack(&self, k: usize) -> u32
+        requires low { 1 ≤ k }
+        requires known { k ≤ self.now.t.stations }
+        ensures { Looks (view self.now.t) (λ o l. others_lack o l k) result }
+    {
+        let all = lacking(
+            &self.t.table[..self.t.stations as usize],
+            &self.t.taken[1..],
+        );
+        let own = self.t.table[k - 1].lacks(self.t.taken[k]);
+        all - own as u32
+    }
+
+    // The verdict on a reserve, by the kept counts.
+    fn judge_reserve(&self, station: u32, count: u32) -> Result<(), Refusal>
+        ensures { Judges (view self.now.t) (Reserve station count) result }
+    {
+        let k = self.known(station)?;
+        if count == 0 {
+            return Err(Refusal::ZeroCount);
+        }
+        let limit = self.t.table[k - 1].limit;
+        if u64::from(self.t.taken[k]) + u64::from(count) > u64::from(limit) {
+            return Err(Refusal::OverLimit);
+        }
+        if u64::from(self.t.rows[0].count) < u64::from(count) + u64::from(self.others_lack(k)) {
+            return Err(Refusal::OwedToOthers);
+        }
+        Ok(())
+    }
+
+    // The verdict on a give back.
+    fn judge_give_back(&self, station: u32, count: u32) -> Result<(), Refusal>
+        ensures { Judges (view self.now.t) (GiveBack station count) result }
+    {
+        let k = self.known(station)?;
+        if count == 0 {
+            return Err(Refusal::ZeroCount);
+        }
+        if u32::from(self.t.rows[k].count) < count {
+            return Err(Refusal::MoreThanReserved);
+        }
+        Ok(())
+    }
+
+    // The verdict on a draw.
+    fn judge_draw(&self, station: u32) -> Result<(), Refusal>
+        ensures { Judges (view self.now.t) (Draw station) result }
+    {
+        let k = self.known(station)?;
+        if self.t.rows[k].count == 0 {
+            return Err(Refusal::NothingReserved);
+        }
+        Ok(())
+    }
+
+    // The verdict on a call that spends a slip, wherever the slip comes from.
+    fn judge_slip(&self, slip: &Slip) -> Result<(), Refusal>
+        ensures { Judges (view self.now.t) (VoidSlip (numbers slip.now)) result }
+    {
+        self.known(u32::from(slip.station))?;
+        let ours = slip.site == self.t.site && slip.block == self.t.number;
+        if !ours || !self.t.has_drawn(slip.code, slip.station) {
+            return Err(Refusal::SlipNotDrawn);
+        }
+        Ok(())
+    }
+
+    // An accepted reserve: answers how many codes are still free.
+    fn hand_out(&mut self, station: u32, count: u32) -> u32
+        requires { Judges (view self.old.t) (Reserve station count) (Ok tt) }
+        ensures { Step (view self.old.t) (Reserve station count) (Ok result) (view self.new.t) }
+    {
+        let k = station as u16;
+        self.t.shift_many(0, k, count);
+        self.t.taken[station as usize] += count as u16;
+        u32::from(self.t.rows[0].count)
+    }
+
+    // An accepted give back: answers how many codes are free now.
+    fn take_back(&mut self, station: u32, count: u32) -> u32
+        requires { Judges (view self.old.t) (GiveBack station count) (Ok tt) }
+        ensures { Step (view self.old.t) (GiveBack station count) (Ok result) (view self.new.t) }
+    {
+        let k = station as u16;
+        self.t.shift_many(k, 0, count);
+        self.t.taken[station as usize] -= count as u16;
+        u32::from(self.t.rows[0].count)
+    }
+
+    // An accepted draw: answers the slip with the station's first code.
+    fn write_slip(&mut self, station: u32) -> Slip
+        requires { Judges (view self.old.t) (Draw station) (Ok tt) }
+        ensures steps { Step (view self.old.t) (Draw station) (Ok result.code) (view self.new.t) }
+        ensures slip { result ≡ slip_of (view self.old.t) station result.code }
+    {
+        let k = station as u16;
+        let code = self.t.take_first(k);
+        Slip {
+            site: self.t.site,
+            block: self.t.number,
+            code,
+            station: k,
+            spent: false,
+        }
+    }
+
+    // An accepted void: answers the code.
+    fn spoil(&mut self, slip: &Slip) -> u32
+        requires { Judges (view self.old.t) (VoidSlip (numbers slip.now)) (Ok tt) }
+        ensures { Step (view self.old.t) (VoidSlip (numbers slip.now)) (Ok result) (view self.new.t) }
+    {
+        self.t.mark(slip.code, Status::Void, slip.station);
+        u32::from(slip.code)
     }
 
     // Moves the first free code to the front of the station's, `count` times: answers how many are still free.
     pub fn reserve(&mut self, station: u32, count: u32) -> Result<u32, Refusal>
         ensures { Step (view self.old.t) (Reserve station count) result (view self.new.t) }
     {
-        self.t.reserve(station, count)
+        self.judge_reserve(station, count)?;
+        Ok(self.hand_out(station, count))
     }
 
     // Moves the station's first code to the front of the free ones, `count` times: answers how many are free now.
     pub fn give_back(&mut self, station: u32, count: u32) -> Result<u32, Refusal>
         ensures { Step (view self.old.t) (GiveBack station count) result (view self.new.t) }
     {
-        self.t.give_back(station, count)
+        self.judge_give_back(station, count)?;
+        Ok(self.take_back(station, count))
     }
 
     // Takes the station's first code: answers the slip with it.
@@ -57,28 +184,39 @@ impl<'k, 'c, 'r, 's> Block<'k, 'c, 'r, 's> {
         ensures steps { Step (view self.old.t) (Draw station) (drawn_code result) (view self.new.t) }
         ensures slip { MatchResult result (λ p. p ≡ slip_of (view self.old.t) station p.code) (λ _. 0 ≤ 0) }
     {
-        self.t.draw(station)
+        self.judge_draw(station)?;
+        Ok(self.write_slip(station))
     }
 
     // Makes the slip's code void for ever: answers the code. The slip is spent, also where the call is refused.
-    pub fn void(&mut self, slip: Slip) -> Result<u32, Refusal>
+    pub fn void(&mut self, mut slip: Slip) -> Result<u32, Refusal>
         ensures { Step (view self.old.t) (VoidSlip (numbers slip)) result (view self.new.t) }
     {
-        self.t.void(slip)
+        slip.spent = true;
+        self.judge_slip(&slip)?;
+        Ok(self.spoil(&slip))
     }
 
     // How many codes the station has taken, and how many it lacks of its guarantee.
     pub fn tally(&self, station: u32) -> Result<(u32, u32), Refusal>
         ensures { Looks (view self.now.t) (λ o l. tally_of o l station) result }
     {
-        self.t.tally(station)
+        let k = self.known(station)?;
+        let taken = self.t.taken[k];
+        let lacks = self.t.table[k - 1].lacks(taken);
+        Ok((u32::from(taken), u32::from(lacks)))
     }
 
     // The newest register cell of the station.
     pub fn latest(&self, station: u32) -> Result<Option<u32>, Refusal>
         ensures { Looks (view self.now.t) (λ o l. latest_of o l station) result }
     {
-        self.t.latest(station)
+        let newest = self.t.newest[self.known(station)?];
+        if newest == 0 {
+            Ok(None)
+        } else {
+            Ok(Some(u32::from(newest)))
+        }
     }
 
     // Ends the block and gives back what was lent to it.
@@ -86,6 +224,7 @@ impl<'k, 'c, 'r, 's> Block<'k, 'c, 'r, 's> {
         ensures codes { result.0.now ≡ (view self.entry.t).cells }
         ensures register { result.1.now ≡ (view self.entry.t).register }
     {
+        // each in a variable first: the check does not yet follow a reference out of a field of a field
         let codes = self.t.codes;
         let register = self.t.register;
         (codes, register)

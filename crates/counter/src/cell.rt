@@ -1,12 +1,11 @@
-// The cells that a caller lends to a block: one for each code, and the register's.
-ghost use Rattle.std.specs.Prelude.{◌≡◌};
-ghost use Rattle.counter.specs.Cells.{is_drawn, blank_record};
+// The cells that a caller lends to a block, one for each code, and the register's. Chains run through them by numbers,
+// with 0 at the end, so that a block needs no memory but what it is lent.
 ghost use Rattle.std.proofs.Common.{rules};
 
 use chain::Linked;
 
 // What has become of a code.
-#[derive(Clone, Copy)]
+#[derive(Clone, Copy, Debug, PartialEq, Eq)]
 pub enum Status {
     // nobody's, to be reserved
     Free,
@@ -20,23 +19,21 @@ pub enum Status {
     Void,
 }
 
-impl Status {
-    pub(crate) fn is_drawn(self) -> bool
-        ensures { result ≡ is_drawn self }
-    {
-        match self {
-            Status::Drawn => true,
-            _ => false,
-        }
-    }
-}
-
 // A code's cell. A free code has station 0; a code that is neither free nor reserved stands in no chain.
-#[derive(Clone, Copy)]
+#[derive(Clone, Copy, Debug, PartialEq, Eq)]
 pub struct CodeCell {
     pub status: Status,
     pub station: u16,
     pub next: u16,
+}
+
+impl CodeCell {
+    // The cell of a code that nobody has, in no chain: what is lent to a block may be filled with it.
+    pub const FREE: CodeCell = CodeCell {
+        status: Status::Free,
+        station: 0,
+        next: 0,
+    };
 }
 
 impl Linked for CodeCell {
@@ -60,22 +57,18 @@ impl Linked for CodeCell {
 }
 
 // A register cell: room for one card image. Its next number is the cell that its station issued before it.
-#[derive(Clone, Copy)]
+#[derive(Clone, Copy, Debug, PartialEq, Eq)]
 pub struct RegisterCell {
     pub next: u16,
     pub image: [u8; 192],
 }
 
 impl RegisterCell {
-    // A cell that holds no image.
-    pub(crate) fn blank() -> RegisterCell
-        ensures { result ≡ blank_record }
-    {
-        RegisterCell {
-            next: 0,
-            image: [0; 192],
-        }
-    }
+    // A cell that holds no image. Rust derives no `Default` for an array of 192.
+    pub const BLANK: RegisterCell = RegisterCell {
+        next: 0,
+        image: [0; 192],
+    };
 }
 
 impl Linked for RegisterCell {

@@ -10,6 +10,6 @@ mod tables;
 
 pub use block::Block;
 pub use cell::{CodeCell, RegisterCell, Status};
-pub use opening::check;
+pub use opening::Opening;
 pub use slip::Slip;
 pub use station::Station;

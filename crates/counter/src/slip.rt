@@ -42,12 +42,12 @@ impl Slip {
     pub fn code(&self) -> u32
         ensures { result ≡ self.now.code }
     {
-        self.code as u32
+        u32::from(self.code)
     }
 
     pub fn station(&self) -> u32
         ensures { result ≡ self.now.station }
     {
-        self.station as u32
+        u32::from(self.station)
     }
 }

@@ -1,9 +1,9 @@
 // The stations of a block.
-ghost use Rattle.std.specs.Prelude.{◌≡◌, ◌-◌};
+ghost use Rattle.std.specs.Prelude.{◌≡◌, ◌-◌, ◌≤◌, length, sum_by, zip};
 ghost use Rattle.counter.specs.Opened.{breaks};
 
 // An entry of the caller's table: a programming station, numbered from 1 by its place.
-#[derive(Clone, Copy)]
+#[derive(Clone, Copy, Debug, PartialEq, Eq)]
 pub struct Station {
     // so many codes it can always take, whatever the others do
     pub guarantee: u16,
@@ -16,17 +16,25 @@ impl Station {
     pub(crate) fn breaks(self, n: usize) -> bool
         ensures { result ≡ breaks n self }
     {
-        self.guarantee > self.limit || self.limit as usize > n
+        self.guarantee > self.limit || usize::from(self.limit) > n
     }
 
     // What it lacks of its guarantee when it has taken so many codes.
     pub(crate) fn lacks(self, taken: u16) -> u16
         ensures { result ≡ self.guarantee - taken }
     {
-        if self.guarantee > taken {
-            self.guarantee - taken
-        } else {
-            0
-        }
+        self.guarantee.saturating_sub(taken)
     }
+}
+
+// What stations lack of their guarantees, all together, where they have taken so many codes.
+pub(crate) fn lacking(stations: &[Station], taken: &[u16]) -> u32
+    requires { length stations.now ≤ 8 }
+    ensures { result ≡ sum_by (λ p. p.0.guarantee - p.1) (zip stations.now taken.now) }
+{
+    stations
+        .iter()
+        .zip(taken)
+        .map(|(s, taken)| u32::from(s.lacks(*taken)))
+        .sum()
 }

@@ -4,7 +4,7 @@
 
 use anyhow::Context;
 use compression::Sha256;
-use counter::{Block, CodeCell, RegisterCell, Station, Status};
+use counter::{Block, CodeCell, Opening, RegisterCell, Station};
 use refusal::Refusal;
 use std::env;
 use std::time::Instant;
@@ -49,13 +49,19 @@ fn once<F: Fn(&mut Block) -> Result<(), Refusal>>(
     requires { F.IsAlwaysCallable work.now }
 {
     let key = [0; 32];
-    let image = [0; 192];
-    let mut register = [RegisterCell { next: 0, image }];
+    let mut register = [RegisterCell::BLANK];
     let stations = [Station {
         guarantee: 0,
         limit,
     }];
-    let mut block = Block::open::<Sha256>(1, 1, &key, codes, &mut register, &stations);
+    let mut block = Block::open::<Sha256>(Opening {
+        site: 1,
+        block: 1,
+        key: &key,
+        codes,
+        register: &mut register,
+        stations: &stations,
+    });
     let start = Instant::now(rt)?;
     let done = work(&mut block);
     let spent = start.elapsed(rt)?;
@@ -71,12 +77,7 @@ fn sample<F: Fn(&mut Block) -> Result<(), Refusal>>(
 ) -> anyhow::Result<u128>
     requires { F.IsAlwaysCallable work }
 {
-    let free = CodeCell {
-        status: Status::Free,
-        station: 0,
-        next: 0,
-    };
-    let mut codes = vec![in rt.alloc(); free; usize::from(n)]?;
+    let mut codes = vec![in rt.alloc(); CodeCell::FREE; usize::from(n)]?;
     let mut sum = 0u128;
     for _ in 0..BLOCKS {
         let spent = once(rt, codes.as_mut_slice(), n, &work)?;

@@ -6,7 +6,7 @@ mod request;
 mod step;
 
 use compression::Sha256;
-use counter::{Block, CodeCell, RegisterCell, Station, Status};
+use counter::{Block, CodeCell, Opening, RegisterCell, Station};
 use request::parse;
 use std::io;
 use std::io::{BufRead, BufReader};
@@ -24,22 +24,18 @@ const STATION: Station = Station {
     limit: 6,
 };
 
-const CODE: CodeCell = CodeCell {
-    status: Status::Free,
-    station: 0,
-    next: 0,
-};
-
-const CELL: RegisterCell = RegisterCell {
-    next: 0,
-    image: [0; 192],
-};
-
 fn main(rt: HostRuntime) -> io::Result<()> {
-    let mut codes = [CODE; 10];
-    let mut register = [CELL; 4];
+    let mut codes = [CodeCell::FREE; 10];
+    let mut register = [RegisterCell::BLANK; 4];
     let stations = [STATION; 2];
-    let mut block = Block::open::<Sha256>(SITE, BLOCK, &KEY, &mut codes, &mut register, &stations);
+    let mut block = Block::open::<Sha256>(Opening {
+        site: SITE,
+        block: BLOCK,
+        key: &KEY,
+        codes: &mut codes,
+        register: &mut register,
+        stations: &stations,
+    });
     for line in BufReader::new(rt.alloc(), rt.stdin())?.split(rt.alloc(), b'\n') {
         let line = line?;
         let answer = step(&mut block, parse(line.as_slice()));

@@ -1,26 +1,16 @@
 -- The rule of the station table. Assumes nothing.
-use Rattle.std.proofs.Common.{◌≡◌, ◌||◌, ltb, length, sym, ap, ◌∙◌, arith}
-use Rattle.counter.proofs.Openings.{breaks_more, guarantee_more, unfit_is}
+use Rattle.std.proofs.Common.{◌||◌, ltb, sym, ap, ◌∙◌, arith}
+use Rattle.std.specs.List.{sum_by}
+use Rattle.counter.specs.declared.station.Station.{Station}
+use Rattle.counter.proofs.Openings.{unfit_is}
 use Rattle.counter.proofs.opening.unfit.Goals as goal
-use Rattle.counter.proofs.opening.unfit.Goals.{then-broken, else-broken}
 
-pub loop-i-preserved : goal.loop-i-preserved
-loop-i-preserved c =
-    let n = c.args.n in
-    let ts = c.args.stations.now in
-    let i = c.loop-i.i in
-    let or : c.if-broken.broken ≡ (c.loop-i.broken || c.breaks-bad.result) = elim c.if-broken.branch [
-      | then-broken w ↦ w.broken-is ∙ w.if-broken.true ∙ ap (λ b. b || c.breaks-bad.result) (sym w.if-broken.true)
-      | else-broken w ↦ w.broken-is ∙ ap (λ b. b || c.breaks-bad.result) (sym w.if-broken.false)
-    ] in
-    (or ∙ breaks_more n ts i c.loop-i.broken c.breaks-bad.result c.loop-i.invariant.0 c.breaks-bad.ensures, guarantee_more ts i c.loop-i.sum c.loop-i.invariant.1, omega (arith, c.loop-i.invariant.2))
+pub returns-then-some_breaks : goal.returns-then-some_breaks
+returns-then-some_breaks c =
+    let b = c.some_breaks.result in
+    c.if-some_breaks.true ∙ ap (λ t. t || ltb c.args.n (sum_by (λ (s : Station). s.guarantee) c.args.stations.now)) (sym c.if-some_breaks.true) ∙ unfit_is c.args.stations.now c.args.n b (sym c.is_empty.ensures ∙ c.if-is_empty.false) (omega arith) c.some_breaks.ensures
 
-pub returns-then-broken-2 : goal.returns-then-broken-2
-returns-then-broken-2 c =
-    let e : c.loop-i.i ≡ length c.args.stations.now = omega arith in
-    c.if-broken-2.true ∙ ap (λ b. b || ltb c.args.n c.loop-i.sum) (sym c.if-broken-2.true) ∙ unfit_is c.args.n c.args.stations.now c.loop-i.broken c.loop-i.sum c.loop-i.i c.if-stations-eq0.false c.if-stations-gt-MOST_STATIONS.false e c.loop-i.invariant.0 c.loop-i.invariant.1
-
-pub returns-else-broken-2 : goal.returns-else-broken-2
-returns-else-broken-2 c =
-    let e : c.loop-i.i ≡ length c.args.stations.now = omega arith in
-    ap (λ b. b || ltb c.args.n c.loop-i.sum) (sym c.if-broken-2.false) ∙ unfit_is c.args.n c.args.stations.now c.loop-i.broken c.loop-i.sum c.loop-i.i c.if-stations-eq0.false c.if-stations-gt-MOST_STATIONS.false e c.loop-i.invariant.0 c.loop-i.invariant.1
+pub returns-else-some_breaks : goal.returns-else-some_breaks
+returns-else-some_breaks c =
+    let b = c.some_breaks.result in
+    ap (ltb c.args.n) c.guaranteed.ensures ∙ ap (λ t. t || ltb c.args.n (sum_by (λ (s : Station). s.guarantee) c.args.stations.now)) (sym c.if-some_breaks.false) ∙ unfit_is c.args.stations.now c.args.n b (sym c.is_empty.ensures ∙ c.if-is_empty.false) (omega arith) c.some_breaks.ensures

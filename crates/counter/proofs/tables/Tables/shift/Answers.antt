@@ -34,11 +34,11 @@ join-requires c =
 heads : (s : State) → ∥ Kept s ∥₁ → (a b : ℕ) → (a ≡ b → ⊥) → a ≤ s.setting.stations → b ≤ s.setting.stations → 1 ≤ (get_or s.rows a no_row).count → (1 ≤ (get_or s.rows a no_row).head) × ((get_or s.rows a no_row).head ≤ length s.cells)
 heads s q a b ne in_a in_b some = (head_low s q a in_a some, head_high s q a in_a some (one_of a b _ ne in_a in_b))
 
-pub returns-in-None : goal.returns-in-None
-returns-in-None c =
+pub returns-in_default : goal.returns-in_default
+returns-in_default c =
     let s = view c.args.self.now in
     let h = heads s c.requires.kept c.args.from c.args.to c.requires.apart c.requires.from c.requires.to c.requires.some in
-    absurd (popped_none (length s.cells) (get_or s.rows c.args.from no_row).head (next_of (map next_number s.cells) (get_or s.rows c.args.from no_row).head) h.0 h.1 c.in-None.ensures.first)
+    absurd (popped_none (length s.cells) (get_or s.rows c.args.from no_row).head (next_of (map next_number s.cells) (get_or s.rows c.args.from no_row).head) h.0 h.1 (sym c.in_default.is ∙ c.pop_front.ensures.first))
 
 pub returns-in-Some : goal.returns-in-Some
 returns-in-Some c =

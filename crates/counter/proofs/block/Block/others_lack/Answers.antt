@@ -1,0 +1,13 @@
+-- What the other stations lack. Assumes nothing.
+use Rattle.std.proofs.Common.{arith}
+use mathlib.Core.Logic.{∥∥₁_elim}
+use native.Mathlib.Bridge.{le_prop}
+use Rattle.counter.specs.Shown.{view}
+use Rattle.counter.proofs.Calls.{others_shown}
+use Rattle.counter.proofs.block.Block.others_lack.Goals as goal
+
+pub overflow_sub-result : goal.overflow_sub-result
+overflow_sub-result c = ∥∥₁_elim c.args.self.now.sound le_prop (λ r. omega (arith, others_shown r.0 (view c.args.self.now.t) r.1 c.args.k _ _ r.2 c.requires.low c.requires.known c.lacking-all.ensures c.lacks-own.ensures))
+
+pub returns : goal.returns
+returns c o l q = omega (arith, others_shown o (view c.args.self.now.t) l c.args.k _ _ q c.requires.low c.requires.known c.lacking-all.ensures c.lacks-own.ensures)

@@ -1,8 +1,0 @@
--- A station's newest register cell. Assumes nothing.
-use Rattle.std.proofs.Common.{arith}
-use Rattle.counter.specs.Shown.{view}
-use Rattle.counter.proofs.Facts.{in_table}
-use Rattle.counter.proofs.tables.Tables.latest.Goals as goal
-
-pub bounds-self-station : goal.bounds-self-station
-bounds-self-station c = omega (arith, in_table (view c.args.self.now) c.requires c.args.station c.if-unknown.ensures)
