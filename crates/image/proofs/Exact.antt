@@ -82,7 +82,7 @@ exactly kind b shortest longest F key I place r after wide lawful bytes verdict 
           let w : message_length I ≡ length M = ap message_length made ∙ (image_apart kind b (F key) wide lawful (label_of I) (header_of I) M).message_long ∙ c_long kind b (F key) wide lawful (label_of I) (header_of I) M in
           let opens : opened_image b (F key) I ≡ Some M = ap (opened_image b (F key)) made ∙ image_opens kind b (F key) wide lawful (label_of I) (header_of I) M in
           let some : is_some (opened_image b (F key) I) ≡ true = ap is_some opens in
-          let finds : opened_image b (F key) I ≡ Some X = found kind b (F key) I wide lawful is some in
+          let finds = found kind b (F key) I wide lawful is some in
           let same : X ≡ M = cc in
           let accepts : open_verdict kind b shortest longest F key I place ≡ Ok tt =
           past_place kind b shortest longest F key I place key_ok looked (omega arith) ∙ ap (λ t. judged ((not t, TagMismatch) ∷ [])) some in

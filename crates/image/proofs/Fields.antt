@@ -26,7 +26,7 @@ bytes_back x y z v hx hy hz hv =
     let ey : get_or (to_be 4 n) 1 0 ≡ y = omega arith in
     let ez : get_or (to_be 4 n) 2 0 ≡ z = omega arith in
     let ev : get_or (to_be 4 n) 3 0 ≡ v = omega arith in
-    ap₂ ◌∷◌ ex (ap₂ ◌∷◌ ey (ap₂ ◌∷◌ ez (ap₂ ◌∷◌ ev refl)))
+    cc
 
 -- An image taken apart, where its ciphertext C has w bytes and its tag T has 16.
 abbrev pub made : (kind : ℕ) (l : Label) (header C T : List ℕ) → List ℕ
@@ -62,10 +62,7 @@ apart kind l header C T t_long =
     }
 
 pub label_back : (kind : ℕ) (l : Label) (header C T : List ℕ) → l.site < 2 ^ 32 → l.block < 2 ^ 32 → l.code < 2 ^ 32 → label_of (made kind l header C T) ≡ l
-label_back kind l header C T site block code =
-    let of : (s b c : ℕ) → Label = λ s b c. record { site = s; block = b; code = c; station = l.station } in
-    ap₂ (λ s b. of s b (from_be (to_be 4 l.code))) (number_back l.site site) (number_back l.block block)
-    ∙ ap (of l.site l.block) (number_back l.code code)
+label_back kind l header C T site block code = rw (number_back l.site site) (rw (number_back l.block block) (rw (number_back l.code code) refl))
 
 -- Put together again, where all bytes are below 256.
 bytes_at : (at : ℕ) (I : List ℕ) → at + 4 ≤ length I → AllBelowBase 256 I → to_be 4 (number_at at I) ≡ map (λ k. get_or I (at + k) 0) (range_with_len 0 4)

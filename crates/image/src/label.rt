@@ -28,7 +28,7 @@ fn number_at(at: usize, image: &[u8]) -> u32
 
 impl Label {
     // The label of an image.
-    pub(crate) fn of_image(image: &[u8]) -> Label
+    pub(crate) fn from_image(image: &[u8]) -> Label
         requires { 32 ≤ length image.now }
         ensures { result ≡ label_of image.now }
     {

@@ -15,7 +15,7 @@ fn exact<C: Compression>(key: &[u8], image: &[u8])
     ensures { (place after : List ℕ) (r : Result ℕ Refusal) → r ≡ open_answer C.Compression.KIND C.Compression.BLOCK_LEN C.Compression.SHORTEST_KEY C.Compression.LONGEST_KEY C.Compression.meaning key.now image.now place → after ≡ open_place C.Compression.KIND C.Compression.BLOCK_LEN C.Compression.SHORTEST_KEY C.Compression.LONGEST_KEY C.Compression.meaning key.now image.now place → OpensWhatWasBuilt C.Compression.KIND C.Compression.BLOCK_LEN C.Compression.SHORTEST_KEY C.Compression.LONGEST_KEY C.Compression.meaning key.now image.now place r after }
 {}
 
-// Opens, as the definitions say.
+// Opens, as the definitions say. It stands apart so that the public call needs no proof file.
 fn open_named<C: Compression>(key: &[u8], image: &[u8], place: &mut [u8]) -> Result<usize, Refusal>
     ensures answer { result ≡ open_answer C.Compression.KIND C.Compression.BLOCK_LEN C.Compression.SHORTEST_KEY C.Compression.LONGEST_KEY C.Compression.meaning key.now image.now place.old }
     ensures place { place.new ≡ open_place C.Compression.KIND C.Compression.BLOCK_LEN C.Compression.SHORTEST_KEY C.Compression.LONGEST_KEY C.Compression.meaning key.now image.now place.old }

@@ -47,7 +47,7 @@ pub(crate) fn look_tested(kind: u32, image: &[u8]) -> Result<(), Refusal>
     if u32::from(image[KIND_AT]) != kind || Kind::try_from(kind).is_err() {
         return Err(Refusal::KindMismatch);
     }
-    if Label::of_image(image).is_unlawful() {
+    if Label::from_image(image).is_unlawful() {
         return Err(Refusal::ImageNumber);
     }
     Ok(())

@@ -46,30 +46,6 @@ fn tested<C: Compression>(
     Ok(())
 }
 
-// Seals where nothing objects.
-fn seal_tested<C: Compression>(
-    key: &[u8],
-    nonce: &[u8],
-    data: &[u8],
-    message: &[u8],
-    tag_len: usize,
-    ciphertext: &mut [u8],
-    tag: &mut [u8],
-)
-    requires { seal_verdict C.Compression.BLOCK_LEN C.Compression.SHORTEST_KEY C.Compression.LONGEST_KEY key.now nonce.now «data».now message.now tag_len ciphertext.old tag.old ≡ Ok tt }
-    ensures ciphertext { ciphertext.new ≡ at_front (sealed C.Compression.BLOCK_LEN (C.Compression.meaning key.now) nonce.now «data».now message.now tag_len).0 ciphertext.old }
-    ensures tag { tag.new ≡ at_front (sealed C.Compression.BLOCK_LEN (C.Compression.meaning key.now) nonce.now «data».now message.now tag_len).1 tag.old }
-{
-    Key::<C>::new(key).crossed_and_tagged(
-        Way::Sealing,
-        nonce,
-        data,
-        message,
-        &mut ciphertext[..message.len()],
-        &mut tag[..tag_len],
-    );
-}
-
 // Seals a message: writes its ciphertext and a tag of `tag_len` bytes to the fronts of their places, and answers its length.
 pub fn seal<C: Compression>(
     key: &[u8],
@@ -95,7 +71,14 @@ pub fn seal<C: Compression>(
         ciphertext.len(),
         tag.len(),
     )?;
-    seal_tested::<C>(key, nonce, data, message, tag_len, ciphertext, tag);
+    Key::<C>::new(key).crossed_and_tagged(
+        Way::Sealing,
+        nonce,
+        data,
+        message,
+        &mut ciphertext[..message.len()],
+        &mut tag[..tag_len],
+    );
     Ok(message.len())
 }
 

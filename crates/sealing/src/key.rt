@@ -28,7 +28,7 @@ impl<'k, C: Compression> Key<'k, C> {
 
     // The compression, where the blocks have lengths that it takes.
     pub(crate) fn compress(&self, chaining: &[u8], message: &[u8], place: &mut [u8])
-        requires { (length chaining.now ≡ C.Compression.BLOCK_LEN) × ((length message.now ≡ C.Compression.BLOCK_LEN) × (length place.old ≡ C.Compression.BLOCK_LEN)) }
+        requires { (length chaining.now ≡ C.Compression.BLOCK_LEN) × (length message.now ≡ C.Compression.BLOCK_LEN) × (length place.old ≡ C.Compression.BLOCK_LEN) }
         ensures { place.new ≡ C.Compression.meaning self.now.bytes.now chaining.now message.now }
     {
         let _ = C::compress(self.bytes, chaining, message, place);
@@ -36,7 +36,7 @@ impl<'k, C: Compression> Key<'k, C> {
 
     // Compresses a message block into the chaining value, with the mask added to it.
     pub(crate) fn fold(&self, mask: &[u8], message: &[u8], chaining: &mut [u8])
-        requires { (length mask.now ≡ C.Compression.BLOCK_LEN) × ((length message.now ≡ C.Compression.BLOCK_LEN) × (length chaining.old ≡ C.Compression.BLOCK_LEN)) }
+        requires { (length mask.now ≡ C.Compression.BLOCK_LEN) × (length message.now ≡ C.Compression.BLOCK_LEN) × (length chaining.old ≡ C.Compression.BLOCK_LEN) }
         ensures { chaining.new ≡ C.Compression.meaning self.now.bytes.now (chaining.old ⊕ mask.now) message.now }
     {
         let b = C::BLOCK_LEN;

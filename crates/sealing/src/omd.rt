@@ -61,7 +61,7 @@ impl<C: Compression> Key<'_, C> {
 
     // The chaining value at the first block, from its mask.
     fn first_chaining(&self, mask: &[u8], tag_len: usize, chaining: &mut [u8])
-        requires { (tag_len ≤ C.Compression.BLOCK_LEN) × ((length mask.now ≡ C.Compression.BLOCK_LEN) × (length chaining.old ≡ C.Compression.BLOCK_LEN)) }
+        requires { (tag_len ≤ C.Compression.BLOCK_LEN) × (length mask.now ≡ C.Compression.BLOCK_LEN) × (length chaining.old ≡ C.Compression.BLOCK_LEN) }
         ensures { chaining.new ≡ C.Compression.meaning self.now.bytes.now mask.now (to_be C.Compression.BLOCK_LEN (8 * tag_len)) }
     {
         let b = C::BLOCK_LEN;
@@ -72,7 +72,7 @@ impl<C: Compression> Key<'_, C> {
 
     // Adds what a block of the associated data gives under its mask.
     fn absorb(&self, mask: &[u8], block: &[u8], to: &mut [u8])
-        requires { (length block.now ≡ 2 * C.Compression.BLOCK_LEN) × ((length mask.now ≡ C.Compression.BLOCK_LEN) × (length to.old ≡ C.Compression.BLOCK_LEN)) }
+        requires { (length block.now ≡ 2 * C.Compression.BLOCK_LEN) × (length mask.now ≡ C.Compression.BLOCK_LEN) × (length to.old ≡ C.Compression.BLOCK_LEN) }
         ensures { to.new ≡ to.old ⊕ halves C.Compression.BLOCK_LEN (C.Compression.meaning self.now.bytes.now) block.now mask.now }
     {
         let b = C::BLOCK_LEN;
@@ -93,7 +93,7 @@ impl<C: Compression> Key<'_, C> {
         output: &mut [u8],
         tag: &mut [u8],
     )
-        requires lengths { (length nonce.now < C.Compression.BLOCK_LEN) × ((1 ≤ length «data».now) × ((length «data».now ≤ 65535) × (length input.now ≤ 65535))) }
+        requires lengths { (length nonce.now < C.Compression.BLOCK_LEN) × (1 ≤ length «data».now) × (length «data».now ≤ 65535) × (length input.now ≤ 65535) }
         requires places { (length output.old ≡ length input.now) × (length tag.old ≤ C.Compression.BLOCK_LEN) }
         ensures text { output.new ≡ other_text C.Compression.BLOCK_LEN (C.Compression.meaning self.entry.bytes.now) way nonce.now (length tag.old) input.now }
         ensures tag { tag.new ≡ Tag C.Compression.BLOCK_LEN (C.Compression.meaning self.entry.bytes.now) way nonce.now «data».now (length tag.old) input.now }
@@ -111,6 +111,8 @@ impl<C: Compression> Key<'_, C> {
     }
 }
 
+// The mask and the chaining value stay two slices: as fields of one struct they cannot yet be lent side by side, one to read
+// and one to write.
 impl<C: Compression> Masks<'_, C> {
     // One block of a text that is not the last, whose number is `number`: writes the other text's block, adds the next mask,
     // and moves the chaining value on.
@@ -124,7 +126,7 @@ impl<C: Compression> Masks<'_, C> {
         chaining: &mut [u8],
     )
         requires number { (1 ≤ number) × (number < self.now.most) }
-        requires blocks { (length input.now ≡ C.Compression.BLOCK_LEN) × ((length output.old ≡ C.Compression.BLOCK_LEN) × ((length mask.old ≡ C.Compression.BLOCK_LEN) × (length chaining.old ≡ C.Compression.BLOCK_LEN))) }
+        requires blocks { (length input.now ≡ C.Compression.BLOCK_LEN) × (length output.old ≡ C.Compression.BLOCK_LEN) × (length mask.old ≡ C.Compression.BLOCK_LEN) × (length chaining.old ≡ C.Compression.BLOCK_LEN) }
         ensures text { output.new ≡ chaining.old ⊕ input.now }
         ensures mask { mask.new ≡ mask.old ⊕ L C.Compression.BLOCK_LEN (C.Compression.meaning self.now.key.bytes.now) (ntz (number + 1)) }
         ensures chaining { chaining.new ≡ C.Compression.meaning self.now.key.bytes.now (chaining.old ⊕ mask.new) (plain way chaining.old input.now) }
@@ -148,7 +150,7 @@ impl<C: Compression> Masks<'_, C> {
     )
         requires masks { block_count C.Compression.BLOCK_LEN input.now ≤ self.now.most }
         requires lengths { (length nonce.now < C.Compression.BLOCK_LEN) × (tag_len ≤ C.Compression.BLOCK_LEN) }
-        requires places { (length output.old ≡ length input.now) × ((length mask.old ≡ C.Compression.BLOCK_LEN) × (length chaining.old ≡ C.Compression.BLOCK_LEN)) }
+        requires places { (length output.old ≡ length input.now) × (length mask.old ≡ C.Compression.BLOCK_LEN) × (length chaining.old ≡ C.Compression.BLOCK_LEN) }
         ensures text { output.new ≡ chained (crossed C.Compression.BLOCK_LEN (C.Compression.meaning self.now.key.bytes.now) way nonce.now tag_len input.now) (last_block C.Compression.BLOCK_LEN input.now) ++ drop (last_block C.Compression.BLOCK_LEN input.now * C.Compression.BLOCK_LEN) output.old }
         ensures mask { mask.new ≡ Δ C.Compression.BLOCK_LEN (C.Compression.meaning self.now.key.bytes.now) (Δ₀ C.Compression.BLOCK_LEN (C.Compression.meaning self.now.key.bytes.now) nonce.now) (last_block C.Compression.BLOCK_LEN input.now + 1) }
         ensures chaining { chaining.new ≡ chaining_at C.Compression.BLOCK_LEN (C.Compression.meaning self.now.key.bytes.now) way nonce.now tag_len input.now (last_block C.Compression.BLOCK_LEN input.now) }
@@ -172,7 +174,7 @@ impl<C: Compression> Masks<'_, C> {
 
     // The end of a text whose last message block is shorter than a block, and not empty.
     fn end_short(&self, message: &[u8], mask: &mut [u8], chaining: &mut [u8])
-        requires { (length message.now < C.Compression.BLOCK_LEN) × ((length mask.old ≡ C.Compression.BLOCK_LEN) × (length chaining.old ≡ C.Compression.BLOCK_LEN)) }
+        requires { (length message.now < C.Compression.BLOCK_LEN) × (length mask.old ≡ C.Compression.BLOCK_LEN) × (length chaining.old ≡ C.Compression.BLOCK_LEN) }
         ensures { chaining.new ≡ C.Compression.meaning self.now.key.bytes.now (chaining.old ⊕ (mask.old ⊕ triple (L⋆ C.Compression.BLOCK_LEN (C.Compression.meaning self.now.key.bytes.now)))) (padded C.Compression.BLOCK_LEN message.now) }
     {
         let b = C::BLOCK_LEN;
@@ -186,7 +188,7 @@ impl<C: Compression> Masks<'_, C> {
 
     // The end of a text whose last message block is a whole one.
     fn end_whole(&self, message: &[u8], mask: &mut [u8], chaining: &mut [u8])
-        requires { (length message.now ≡ C.Compression.BLOCK_LEN) × ((length mask.old ≡ C.Compression.BLOCK_LEN) × (length chaining.old ≡ C.Compression.BLOCK_LEN)) }
+        requires { (length message.now ≡ C.Compression.BLOCK_LEN) × (length mask.old ≡ C.Compression.BLOCK_LEN) × (length chaining.old ≡ C.Compression.BLOCK_LEN) }
         ensures { chaining.new ≡ C.Compression.meaning self.now.key.bytes.now (chaining.old ⊕ (mask.old ⊕ double (L⋆ C.Compression.BLOCK_LEN (C.Compression.meaning self.now.key.bytes.now)))) message.now }
     {
         let b = C::BLOCK_LEN;
@@ -196,7 +198,7 @@ impl<C: Compression> Masks<'_, C> {
 
     // What the tag has of the message, from the last message block; it is left in `chaining`.
     fn end(&self, message: &[u8], mask: &mut [u8], chaining: &mut [u8])
-        requires { (length message.now ≤ C.Compression.BLOCK_LEN) × ((length mask.old ≡ C.Compression.BLOCK_LEN) × (length chaining.old ≡ C.Compression.BLOCK_LEN)) }
+        requires { (length message.now ≤ C.Compression.BLOCK_LEN) × (length mask.old ≡ C.Compression.BLOCK_LEN) × (length chaining.old ≡ C.Compression.BLOCK_LEN) }
         ensures { chaining.new ≡ ended C.Compression.BLOCK_LEN (C.Compression.meaning self.now.key.bytes.now) mask.old chaining.old message.now }
     {
         if message.len() == C::BLOCK_LEN {
@@ -215,7 +217,7 @@ impl<C: Compression> Masks<'_, C> {
         mask: &mut [u8],
         chaining: &mut [u8],
     )
-        requires { (length input.now ≤ C.Compression.BLOCK_LEN) × ((length output.old ≡ length input.now) × ((length mask.old ≡ C.Compression.BLOCK_LEN) × (length chaining.old ≡ C.Compression.BLOCK_LEN))) }
+        requires { (length input.now ≤ C.Compression.BLOCK_LEN) × (length output.old ≡ length input.now) × (length mask.old ≡ C.Compression.BLOCK_LEN) × (length chaining.old ≡ C.Compression.BLOCK_LEN) }
         ensures text { output.new ≡ chaining.old ⊕ input.now }
         ensures end { chaining.new ≡ ended C.Compression.BLOCK_LEN (C.Compression.meaning self.now.key.bytes.now) mask.old chaining.old (plain way chaining.old input.now) }
     {
@@ -268,7 +270,7 @@ impl<C: Compression> Masks<'_, C> {
 
     // The shorter last block of the associated data, padded.
     fn absorb_short(&self, data: &[u8], mask: &mut [u8], to: &mut [u8])
-        requires { (length «data».now < 2 * C.Compression.BLOCK_LEN) × ((length mask.old ≡ C.Compression.BLOCK_LEN) × (length to.old ≡ C.Compression.BLOCK_LEN)) }
+        requires { (length «data».now < 2 * C.Compression.BLOCK_LEN) × (length mask.old ≡ C.Compression.BLOCK_LEN) × (length to.old ≡ C.Compression.BLOCK_LEN) }
         ensures { to.new ≡ to.old ⊕ halves C.Compression.BLOCK_LEN (C.Compression.meaning self.now.key.bytes.now) (padded (2 * C.Compression.BLOCK_LEN) «data».now) (mask.old ⊕ L⋆ C.Compression.BLOCK_LEN (C.Compression.meaning self.now.key.bytes.now)) }
     {
         let b = C::BLOCK_LEN;
