@@ -8,3 +8,4 @@ pub mod Schedules
 pub mod Sigma
 pub mod Tables
 pub mod WordBytes
+pub mod FromCalls

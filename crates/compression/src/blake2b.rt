@@ -14,6 +14,7 @@ ghost use borrow.Author.Rules.{rules};
 use crate::words::{keyed, load, store};
 use crate::{Compression, tested};
 use refusal::Refusal;
+use std::array;
 
 // the message words that a round takes, in their order
 const SIGMA: [[usize; 16]; 10] = [
@@ -179,16 +180,7 @@ fn work_vector(h: &[u64; 8], low: u64, high: u64, flag: u64) -> [u64; 16]
 fn fold(h: &[u64; 8], v: &[u64; 16]) -> [u64; 8]
     ensures { result ≡ folded h.now v.now }
 {
-    [
-        h[0] ^ v[0] ^ v[8],
-        h[1] ^ v[1] ^ v[9],
-        h[2] ^ v[2] ^ v[10],
-        h[3] ^ v[3] ^ v[11],
-        h[4] ^ v[4] ^ v[12],
-        h[5] ^ v[5] ^ v[13],
-        h[6] ^ v[6] ^ v[14],
-        h[7] ^ v[7] ^ v[15],
-    ]
+    array::from_fn(|i| h[i] ^ v[i] ^ v[i + 8])
 }
 
 fn f(h: &[u64; 8], m: &[u64; 16], t: u128, last: bool) -> [u64; 8]
