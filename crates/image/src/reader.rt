@@ -1,5 +1,5 @@
 // A reader that takes a card image apart.
-ghost use Rattle.std.specs.Prelude.{◌≡◌, ◌+◌, ◌≤◌, false, length, Ok};
+ghost use Rattle.std.specs.Prelude.{◌≡◌, false, Ok};
 ghost use Rattle.refusal.specs.Verdict.{answered};
 ghost use Rattle.image.specs.Look.{wrong_length, look_verdict, shown_in, shown_parts, shown};
 ghost use Rattle.image.specs.Laws.{PartsAreTheImage};

@@ -4,7 +4,8 @@ use Rattle.refusal.specs.declared.Refusal.{Refusal}
 use Rattle.compression.specs.Keyed.{sha256, blake2b}
 use Rattle.image.specs.Image.{message_length}
 use Rattle.image.specs.Look.{look_verdict}
-use Rattle.image.specs.Open.{key_verdict, open_verdict, open_answer, answer_by_kind}
+use Rattle.compression.specs.Compress.{key_verdict}
+use Rattle.image.specs.Open.{open_verdict, open_answer, answer_by_kind}
 use Rattle.image.proofs.Accepted.{accepted}
 use Rattle.image.proofs.Exact.{answered_ok, then_ok}
 
