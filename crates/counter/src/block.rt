@@ -52,12 +52,10 @@ impl<'k, 'c, 'r, 's> Block<'k, 'c, 'r, 's> {
         requires known { k ≤ self.now.t.stations }
         ensures { Looks (view self.now.t) (λ o l. others_lack o l k) result }
     {
-        let all = lacking(
-            &self.t.table[..self.t.stations as usize],
-            &self.t.taken[1..],
-        );
+        let many = self.t.stations as usize;
+        let all = lacking(&self.t.table[..many], &self.t.taken[1..]);
         let own = self.t.table[k - 1].lacks(self.t.taken[k]);
-        all - own as u32
+        all - u32::from(own)
     }
 
     // The verdict on a reserve, by the kept counts.

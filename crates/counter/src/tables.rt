@@ -154,6 +154,7 @@ impl<'k, 'c, 'r, 's> Tables<'k, 'c, 'r, 's> {
         ensures stations { self.new.stations ≡ self.old.stations }
         ensures taken { self.new.taken ≡ self.old.taken }
     {
+        // `as`: after `usize::from` the proof would have to turn each index back into the row
         let first = self.rows[from as usize].head;
         let front = self.rows[to as usize].head;
         if let Some((code, rest)) = pop_front(self.codes, first) {
@@ -206,7 +207,7 @@ impl<'k, 'c, 'r, 's> Tables<'k, 'c, 'r, 's> {
         ensures { result ≡ has_drawn self.now.codes.now code station }
     {
         let place = usize::from(code).checked_sub(1);
-        place.and_then(|i| self.codes.get(i)).is_some_and(|cell| cell.status == Status::Drawn
-            && cell.station == station)
+        let cell = place.and_then(|i| self.codes.get(i));
+        cell.is_some_and(|c| c.status == Status::Drawn && c.station == station)
     }
 }
