@@ -10,6 +10,6 @@ mod tables;
 
 pub use block::Block;
 pub use cell::{CodeCell, RegisterCell, Status};
-pub use opening::Opening;
+pub use opening::{Opening, check};
 pub use slip::Slip;
 pub use station::Station;

@@ -1,7 +1,7 @@
 // What a block is opened with, and whether it may be.
 ghost use Rattle.std.specs.Prelude.{◌≡◌, ◌≤◌, length, sum_by};
 ghost use Rattle.std.specs.List.{list_any};
-ghost use Rattle.counter.specs.Opened.{no_size, breaks, unfit, given, check_verdict};
+ghost use Rattle.counter.specs.Opened.{no_size, breaks, unfit, check_verdict};
 ghost use Rattle.counter.specs.Inside.{InOrder, Blank};
 
 use crate::cell::{CodeCell, RegisterCell};
@@ -60,25 +60,31 @@ fn unfit(n: usize, stations: &[Station]) -> bool
     some_breaks(n, stations) || guaranteed(stations) > n
 }
 
-impl Opening<'_, '_, '_, '_> {
-    // Answers the first refusal that applies to opening such a block. It changes nothing.
-    pub fn check<C: Compression>(&self) -> Result<(), Refusal>
-        ensures { result ≡ check_verdict (given C.Compression.KIND C.Compression.SHORTEST_KEY C.Compression.LONGEST_KEY self.now) }
-    {
-        if no_size(self.codes.len()) {
-            return Err(Refusal::CodeCount);
-        }
-        if unfit(self.codes.len(), self.stations) {
-            return Err(Refusal::StationTable);
-        }
-        if no_size(self.register.len()) {
-            return Err(Refusal::RegisterSize);
-        }
-        if self.site == 0 || self.block == 0 {
-            return Err(Refusal::BlockNumber);
-        }
-        key_tested::<C>(self.key)
+// Answers the first refusal that applies to opening such a block. It changes nothing, and so takes cells that are lent to others
+// as well, where an `Opening` has them alone.
+pub fn check<C: Compression>(
+    site: u32,
+    block: u32,
+    key: &[u8],
+    codes: &[CodeCell],
+    register: &[RegisterCell],
+    stations: &[Station],
+) -> Result<(), Refusal>
+    ensures { result ≡ check_verdict (record { kind = C.Compression.KIND; shortest = C.Compression.SHORTEST_KEY; longest = C.Compression.LONGEST_KEY; site = site; number = block; key = key.now; codes = codes.now; register = register.now; stations = stations.now }) }
+{
+    if no_size(codes.len()) {
+        return Err(Refusal::CodeCount);
     }
+    if unfit(codes.len(), stations) {
+        return Err(Refusal::StationTable);
+    }
+    if no_size(register.len()) {
+        return Err(Refusal::RegisterSize);
+    }
+    if site == 0 || block == 0 {
+        return Err(Refusal::BlockNumber);
+    }
+    key_tested::<C>(key)
 }
 
 // Makes all codes free, chained in order.

@@ -8,7 +8,7 @@ ghost use Rattle.counter.specs.History.{Opened};
 ghost use Rattle.counter.specs.Inside.{has_drawn, new_state, with_mark, with_row, drawn_out, Matches, Kept};
 
 use crate::cell::{CodeCell, RegisterCell, Status};
-use crate::opening::{Opening, fill, wipe};
+use crate::opening::{Opening, check, fill, wipe};
 use crate::station::Station;
 use chain::{Linked, pop_front, push_front};
 use compression::Compression;
@@ -91,7 +91,24 @@ impl<'k, 'c, 'r, 's> Tables<'k, 'c, 'r, 's> {
         ensures sound { ∥ Sound (view result) ∥₁ }
     {
         let kind = C::KIND;
-        match opening.check::<C>() {
+        let Opening {
+            site,
+            block,
+            key,
+            codes,
+            register,
+            stations,
+        } = opening;
+        let verdict = check::<C>(site, block, key, codes, register, stations);
+        let opening = Opening {
+            site,
+            block,
+            key,
+            codes,
+            register,
+            stations,
+        };
+        match verdict {
             Err(_) => Tables::new(kind, opening, 0, Row::EMPTY),
             Ok(()) => {
                 fill(opening.codes);
