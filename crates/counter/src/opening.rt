@@ -93,10 +93,9 @@ pub(crate) fn fill(codes: &mut [CodeCell])
     ensures { InOrder codes.new }
 {
     let n = codes.len();
-    // by index: of what a slice's `iter_mut` lent a proof knows nothing once the borrow is over
-    for i in 0..n {
+    for (i, cell) in codes.iter_mut().enumerate() {
         let next = if i + 1 < n { i as u16 + 2 } else { 0 };
-        codes[i] = CodeCell {
+        *cell = CodeCell {
             next,
             ..CodeCell::FREE
         };
