@@ -14,7 +14,7 @@ src=(crates/*/src/*.rt)
 # 1. own enums of the shape of Option or Result; numbers for kinds and refusals; flags
 grep -nE '^ *(Unknown|NoRequest|None|Nothing),$' "${src[@]}" | point '1 enum variants that say there is nothing'
 grep -nE '\b(if|else if) (kind|number) == u32::from\((Sha256|Blake2b)::' "${src[@]}" | point '1 branches on the number of a kind'
-grep -nE '\.number\(\)|fn number\(self\)' "${src[@]}" | point '1 numbers taken of a refusal by a method'
+grep -nE 'refusal\.number\(\)|fn number\(self\)' "${src[@]}" | point '1 numbers taken of a refusal by a method'
 grep -nE '^ *(pub |pub\(crate\) )?(refusal|number): u32,' "${src[@]}" | point '1 fields with a number beside a value'
 grep -nE '^ *(pub |pub\(crate\) )?[a-z_]+: bool,' "${src[@]}" | point '1 fields and parameters that are flags'
 
@@ -38,6 +38,7 @@ grep -nE '\[0(u8)?; [A-Z0-9_]+\]|^ *(pub |pub\(crate\) )?[a-z_]+: \[.*; [0-9]+\]
 # 7. switches on which step to run
 grep -nE 'match (way|work)\b|: fn\(|\bdyn ' "${src[@]}" | point '7 switches on a step, function values'
 
-# 8. proofs
-find crates/*/proofs -name Answers.antt | point '8 files of answers'
-cat crates/*/proofs/*.antt crates/*/proofs/*/*.antt crates/*/proofs/*/*/*.antt crates/*/proofs/*/*/*/*.antt 2>/dev/null | point '8 lines of proofs'
+# 8. proofs: numbers only
+echo "8 files of answers: $(find crates/*/proofs -name Answers.antt | wc -l)"
+echo "8 answers: $(find crates/*/proofs -name Answers.antt -exec grep -hE '^(pub )?[a-z].* : goal\.' {} + | wc -l)"
+echo "8 lines of proofs: $(find crates/*/proofs -name '*.antt' -exec cat {} + | wc -l)"
