@@ -5,6 +5,7 @@ use Rattle.counter.specs.declared.cell.CodeCell.{CodeCell}
 use Rattle.counter.specs.declared.cell.RegisterCell.{RegisterCell}
 use Rattle.counter.specs.declared.cell.Status.TheVariants.{Free, Drawn}
 use Rattle.counter.specs.declared.tables.Row.{Row}
+use Rattle.counter.specs.declared.tables.Seat.{Seat}
 use Rattle.counter.specs.Cells.{is_drawn, blank_code, blank_record, outside, code_cell}
 use Rattle.counter.specs.Ledger.{Setting, Terms, Mark, Ledger, Call, verdict}
 use Rattle.counter.specs.Shown.{State, no_row, Tidy, Shows, Keeps}
@@ -24,6 +25,9 @@ InOrder cells = (i : ℕ) → i < length cells → slice_index_or cells i blank_
 abbrev pub Blank : List RegisterCell → Type 0
 Blank cells = (i : ℕ) → i < length cells → slice_index_or cells i blank_record ≡ blank_record
 
+abbrev pub no_seat : Seat
+no_seat = record { taken = 0; newest = 0 }
+
 -- A block before any code is taken.
 abbrev pub new_state : Setting → List CodeCell → List RegisterCell → Row → State
 new_state setting cells register free = record { setting = setting; cells = cells; register = register; rows = free ∷ replicate 8 no_row; taken = replicate 9 0; newest = replicate 9 0 }
@@ -35,6 +39,10 @@ with_mark s x m = record { setting = s.setting; cells = slice_set s.cells (x - 1
 -- The block with something else kept of row j.
 abbrev pub with_row : State → ℕ → Row → State
 with_row s j r = record { setting = s.setting; cells = s.cells; register = s.register; rows = slice_set s.rows j r; taken = s.taken; newest = s.newest }
+
+-- The block where station k has taken n codes.
+abbrev pub with_taken : State → ℕ → ℕ → State
+with_taken s k n = record { setting = s.setting; cells = s.cells; register = s.register; rows = s.rows; taken = slice_set s.taken k n; newest = s.newest }
 
 -- The block after code x of station k's row was drawn, and after the first code of the row was.
 abbrev pub drawn_at : State → ℕ → ℕ → State

@@ -1,7 +1,8 @@
 -- What the tables of a block show for a ledger. Assumes nothing.
-use Rattle.std.specs.Prelude.{◌≡◌, ℕ, ◌≤◌, Bool, cond, ◌&&◌, List, [], ◌∷◌, length, ◌==◌, slice_index, slice_index_or}
+use Rattle.std.specs.Prelude.{◌≡◌, ℕ, ◌≤◌, Bool, cond, ◌&&◌, List, [], ◌∷◌, map, length, ◌==◌, slice_index, slice_index_or}
 use Rattle.chain.specs.Chain.{Absent, first, follower}
 use Rattle.counter.specs.declared.tables.Row.{Row}
+use Rattle.counter.specs.declared.tables.Seat.{Seat}
 use Rattle.counter.specs.declared.tables.Tables.{Tables}
 use Rattle.counter.specs.declared.cell.CodeCell.{CodeCell}
 use Rattle.counter.specs.declared.cell.RegisterCell.{RegisterCell}
@@ -24,8 +25,8 @@ view t = record {
   cells = t.codes.now;
   register = t.register.now;
   rows = t.rows;
-  taken = t.taken;
-  newest = t.newest;
+  taken = map (λ (x : Seat). x.taken) t.seats;
+  newest = map (λ (x : Seat). x.newest) t.seats;
 }
 
 abbrev pub no_row : Row

@@ -53,8 +53,8 @@ impl<'k, 'c, 'r, 's> Block<'k, 'c, 'r, 's> {
         ensures { Looks (view self.now.t) (λ o l. others_lack o l k) result }
     {
         let many = self.t.stations as usize;
-        let all = lacking(&self.t.table[..many], &self.t.taken[1..]);
-        let own = self.t.table[k - 1].lacks(self.t.taken[k]);
+        let all = lacking(&self.t.table[..many], &self.t.seats[1..]);
+        let own = self.t.table[k - 1].lacks(self.t.seat(k).taken);
         all - u32::from(own)
     }
 
@@ -67,7 +67,7 @@ impl<'k, 'c, 'r, 's> Block<'k, 'c, 'r, 's> {
             return Err(Refusal::ZeroCount);
         }
         let limit = self.t.table[k - 1].limit;
-        if u64::from(self.t.taken[k]) + u64::from(count) > u64::from(limit) {
+        if u64::from(self.t.seat(k).taken) + u64::from(count) > u64::from(limit) {
             return Err(Refusal::OverLimit);
         }
         if u64::from(self.t.rows[0].count) < u64::from(count) + u64::from(self.others_lack(k)) {
@@ -120,7 +120,9 @@ impl<'k, 'c, 'r, 's> Block<'k, 'c, 'r, 's> {
     {
         let k = station as u16;
         self.t.shift_many(0, k, count);
-        self.t.taken[station as usize] += count as u16;
+        let k = station as usize;
+        let taken = self.t.seat(k).taken + count as u16;
+        self.t.set_taken(k, taken);
         u32::from(self.t.rows[0].count)
     }
 
@@ -131,7 +133,9 @@ impl<'k, 'c, 'r, 's> Block<'k, 'c, 'r, 's> {
     {
         let k = station as u16;
         self.t.shift_many(k, 0, count);
-        self.t.taken[station as usize] -= count as u16;
+        let k = station as usize;
+        let taken = self.t.seat(k).taken - count as u16;
+        self.t.set_taken(k, taken);
         u32::from(self.t.rows[0].count)
     }
 
@@ -200,7 +204,7 @@ impl<'k, 'c, 'r, 's> Block<'k, 'c, 'r, 's> {
         ensures { Looks (view self.now.t) (λ o l. tally_of o l station) result }
     {
         let k = self.known(station)?;
-        let taken = self.t.taken[k];
+        let taken = self.t.seat(k).taken;
         let lacks = self.t.table[k - 1].lacks(taken);
         Ok((u32::from(taken), u32::from(lacks)))
     }
@@ -209,7 +213,7 @@ impl<'k, 'c, 'r, 's> Block<'k, 'c, 'r, 's> {
     pub fn latest(&self, station: u32) -> Result<Option<u32>, Refusal>
         ensures { Looks (view self.now.t) (λ o l. latest_of o l station) result }
     {
-        let newest = self.t.newest[self.known(station)?];
+        let newest = self.t.seat(self.known(station)?).newest;
         if newest == 0 {
             Ok(None)
         } else {

@@ -2,6 +2,8 @@
 ghost use Rattle.std.specs.Prelude.{◌≡◌, ◌-◌, ◌≤◌, length, sum_by, zip};
 ghost use Rattle.counter.specs.Opened.{breaks};
 
+use crate::tables::Seat;
+
 // An entry of the caller's table: a programming station, numbered from 1 by its place.
 #[derive(Clone, Copy, Debug, PartialEq, Eq)]
 pub struct Station {
@@ -28,13 +30,13 @@ impl Station {
 }
 
 // What stations lack of their guarantees, all together, where they have taken so many codes.
-pub(crate) fn lacking(stations: &[Station], taken: &[u16]) -> u32
+pub(crate) fn lacking(stations: &[Station], seats: &[Seat]) -> u32
     requires { length stations.now ≤ 8 }
-    ensures { result ≡ sum_by (λ p. p.0.guarantee - p.1) (zip stations.now taken.now) }
+    ensures { result ≡ sum_by (λ p. p.0.guarantee - p.1.taken) (zip stations.now seats.now) }
 {
     stations
         .iter()
-        .zip(taken)
-        .map(|(s, taken)| u32::from(s.lacks(*taken)))
+        .zip(seats)
+        .map(|(s, seat)| u32::from(s.lacks(seat.taken)))
         .sum()
 }

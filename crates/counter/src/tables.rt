@@ -1,11 +1,11 @@
 // What a block holds, and the small steps that its calls are made of.
-ghost use Rattle.std.specs.Prelude.{◌≡◌, ◌+◌, ◌-◌, ◌<◌, ◌≤◌, length, ◌≢◌, slice_index_or};
+ghost use Rattle.std.specs.Prelude.{◌≡◌, ◌+◌, ◌-◌, ◌<◌, ◌≤◌, length, ◌≢◌, slice_index, slice_index_or};
 ghost use Rattle.counter.specs.Ledger.{Terms, Ledger, move, times, row_mark};
 ghost use Rattle.counter.specs.Shown.{view, no_row, Sound};
 ghost use Rattle.counter.specs.Opened.{given};
 ghost use Rattle.counter.specs.Examples.{ExamplesHold};
 ghost use Rattle.counter.specs.History.{Opened};
-ghost use Rattle.counter.specs.Inside.{has_drawn, new_state, with_mark, with_row, drawn_out, Matches, Kept};
+ghost use Rattle.counter.specs.Inside.{has_drawn, new_state, with_mark, with_row, with_taken, drawn_out, Matches, Kept};
 
 use crate::cell::{CodeCell, RegisterCell, Status};
 use crate::opening::{Opening, check, fill, wipe};
@@ -25,6 +25,20 @@ impl Row {
     const EMPTY: Row = Row { head: 0, count: 0 };
 }
 
+// What is kept of a station: how many codes it has taken (reserved, drawn, issued or void), and its newest register cell.
+#[derive(Clone, Copy)]
+pub struct Seat {
+    pub(crate) taken: u16,
+    pub(crate) newest: u16,
+}
+
+impl Seat {
+    const EMPTY: Seat = Seat {
+        taken: 0,
+        newest: 0,
+    };
+}
+
 // What a block holds: what it was opened with, the cells lent to it, and counts, so that no call has to scan the cells.
 #[derive(Drop)]
 pub struct Tables<'k, 'c, 'r, 's> {
@@ -40,10 +54,8 @@ pub struct Tables<'k, 'c, 'r, 's> {
     pub(crate) stations: u16,
     // by row number
     pub(crate) rows: [Row; 9],
-    // by station number: how many codes it has taken (reserved, drawn, issued or void), and its newest register cell;
-    // lists of their own, since row 0 is no station's, and while codes move the counts of taken codes stay
-    pub(crate) taken: [u16; 9],
-    pub(crate) newest: [u16; 9],
+    // by station number, entry 0 nobody's; apart from the rows, since row 0 is no station's, and the seats stay while codes move
+    pub(crate) seats: [Seat; 9],
 }
 
 // The status of the codes of a row.
@@ -79,8 +91,7 @@ impl<'k, 'c, 'r, 's> Tables<'k, 'c, 'r, 's> {
             table: opening.stations,
             stations,
             rows,
-            taken: [0; 9],
-            newest: [0; 9],
+            seats: [Seat::EMPTY; 9],
         }
     }
 
@@ -121,6 +132,23 @@ impl<'k, 'c, 'r, 's> Tables<'k, 'c, 'r, 's> {
                 Tables::new(kind, opening, many, free)
             }
         }
+    }
+
+    // What is kept of a station.
+    pub(crate) fn seat(&self, station: usize) -> Seat
+        requires { station ≤ 8 }
+        ensures taken { result.taken ≡ slice_index (view self.now).taken station }
+        ensures newest { result.newest ≡ slice_index (view self.now).newest station }
+    {
+        self.seats[station]
+    }
+
+    // Notes how many codes a station has taken.
+    pub(crate) fn set_taken(&mut self, station: usize, taken: u16)
+        requires { station ≤ 8 }
+        ensures { view self.new ≡ with_taken (view self.old) station taken }
+    {
+        self.seats[station].taken = taken;
     }
 
     // Marks a code: the one way in which a code's status changes.
@@ -169,7 +197,7 @@ impl<'k, 'c, 'r, 's> Tables<'k, 'c, 'r, 's> {
         ensures moves { (o : Terms) (l : Ledger) → Matches o (view self.old) l → Matches o (view self.new) (move from to l) }
         ensures fewer { (slice_index_or self.new.rows from no_row).count + 1 ≡ (slice_index_or self.old.rows from no_row).count }
         ensures stations { self.new.stations ≡ self.old.stations }
-        ensures taken { self.new.taken ≡ self.old.taken }
+        ensures taken { (view self.new).taken ≡ (view self.old).taken }
     {
         // `as`: after `usize::from` the proof would have to turn each index back into the row
         let first = self.rows[from as usize].head;
@@ -191,7 +219,7 @@ impl<'k, 'c, 'r, 's> Tables<'k, 'c, 'r, 's> {
         requires enough { count ≤ (slice_index_or self.old.rows from no_row).count }
         requires kept { ∥ Kept (view self.old) ∥₁ }
         ensures moves { (o : Terms) (l : Ledger) → Matches o (view self.old) l → Matches o (view self.new) (times count (move from to) l) }
-        ensures taken { self.new.taken ≡ self.old.taken }
+        ensures taken { (view self.new).taken ≡ (view self.old).taken }
     {
         for _ in 0..count {
             self.shift(from, to);

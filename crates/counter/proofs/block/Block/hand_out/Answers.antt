@@ -1,5 +1,5 @@
 -- An accepted reserve. Assumes nothing.
-use Rattle.std.proofs.Common.{ℕ, List, get_or, refl, ap, arith}
+use Rattle.std.proofs.Common.{ℕ, ◌+◌, List, get_or, refl, ap, arith}
 use Rattle.counter.specs.Ledger.{Reserve}
 use Rattle.counter.specs.Shown.{view}
 use Rattle.counter.proofs.Facts.{kept}
@@ -9,26 +9,19 @@ use Rattle.counter.proofs.block.Block.hand_out.Goals as goal
 pub shift_many-requires-clause-kept : goal.shift_many-requires-clause-kept
 shift_many-requires-clause-kept c = kept (view c.args.self.now.t) c.args.self.now.sound
 
-pub overflow_cast-self : goal.overflow_cast-self
-overflow_cast-self c = omega (arith, reserve_safe (view c.args.self.now.t) c.args.self.now.sound c.args.station c.args.count c.requires)
+pub overflow_cast-taken : goal.overflow_cast-taken
+overflow_cast-taken c = omega (arith, reserve_safe (view c.args.self.now.t) c.args.self.now.sound c.args.station c.args.count c.requires)
 
-pub bounds-self-station : goal.bounds-self-station
-bounds-self-station c = omega (arith, reserve_safe (view c.args.self.now.t) c.args.self.now.sound c.args.station c.args.count c.requires)
-
-pub overflow_add-self : goal.overflow_add-self
-overflow_add-self c =
+pub overflow_add-taken : goal.overflow_add-taken
+overflow_add-taken c =
     let same = ap (λ (ts : List ℕ). get_or ts c.args.station 0) c.shift_many.ensures.taken in
     omega (arith, reserve_safe (view c.args.self.now.t) c.args.self.now.sound c.args.station c.args.count c.requires)
 
-pub bounds-self-station-2 : goal.bounds-self-station-2
-bounds-self-station-2 c = omega (arith, reserve_safe (view c.args.self.now.t) c.args.self.now.sound c.args.station c.args.count c.requires)
+pub set_taken-requires : goal.set_taken-requires
+set_taken-requires c = omega (arith, reserve_safe (view c.args.self.now.t) c.args.self.now.sound c.args.station c.args.count c.requires)
 
 pub invariant_of-self : goal.invariant_of-self
-invariant_of-self c =
-    let s = view c.args.self.now.t in
-    let k = c.args.station in
-    let n = c.args.count in
-    record { sound = step_sound s (Reserve k n) _ _ c.args.self.now.sound (reserve_steps s k n (view c.shift_many.new.self) _ c.shift_many.ensures.taken refl c.requires c.shift_many.ensures.moves) }
+invariant_of-self c = record { sound = step_sound (view c.args.self.now.t) (Reserve c.args.station c.args.count) _ _ c.args.self.now.sound (reserve_steps (view c.args.self.now.t) (view c.shift_many.new.self) (view c.set_taken.new.self) c.args.station c.args.count _ _ c.shift_many.ensures.taken c.set_taken.ensures refl (ap (λ m. m + c.args.count) c.seat.ensures.taken) c.requires c.shift_many.ensures.moves) }
 
 pub returns : goal.returns
-returns c = reserve_steps (view c.args.self.now.t) c.args.station c.args.count (view c.shift_many.new.self) _ c.shift_many.ensures.taken c.from.ensures c.requires c.shift_many.ensures.moves
+returns c = reserve_steps (view c.args.self.now.t) (view c.shift_many.new.self) (view c.set_taken.new.self) c.args.station c.args.count _ _ c.shift_many.ensures.taken c.set_taken.ensures c.from.ensures (ap (λ m. m + c.args.count) c.seat.ensures.taken) c.requires c.shift_many.ensures.moves
