@@ -118,8 +118,7 @@ impl<'k, 'c, 'r, 's> Block<'k, 'c, 'r, 's> {
         requires { Judges (view self.old.t) (Reserve station count) (Ok tt) }
         ensures { Step (view self.old.t) (Reserve station count) (Ok result) (view self.new.t) }
     {
-        let k = station as u16;
-        self.t.shift_many(0, k, count);
+        self.t.shift_many(0, station as u16, count);
         let k = station as usize;
         let taken = self.t.seat(k).taken + count as u16;
         self.t.set_taken(k, taken);
@@ -131,8 +130,7 @@ impl<'k, 'c, 'r, 's> Block<'k, 'c, 'r, 's> {
         requires { Judges (view self.old.t) (GiveBack station count) (Ok tt) }
         ensures { Step (view self.old.t) (GiveBack station count) (Ok result) (view self.new.t) }
     {
-        let k = station as u16;
-        self.t.shift_many(k, 0, count);
+        self.t.shift_many(station as u16, 0, count);
         let k = station as usize;
         let taken = self.t.seat(k).taken - count as u16;
         self.t.set_taken(k, taken);
