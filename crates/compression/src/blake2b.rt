@@ -48,7 +48,7 @@ fn as_published()
     ensures example { Blake2bExample }
 {}
 
-// The word i of the initial value, where there is one. Each word is from the square root of its prime, and the
+// The word i of the initial value, where there is one. (As `get` and `copied` it would need a proof file.) Each word is from the square root of its prime, and the
 // definition that F is proved to meet gives the published example.
 pub fn initial_value(i: usize) -> Option<u64>
     ensures value { result ≡ (if nat_lt i 8 then Some (slice_index iv i) else None) }
@@ -234,6 +234,7 @@ fn f_keyed(key: &[u8], chaining: &[u8], message: &[u8], place: &mut [u8])
     f_bytes(chaining, &block, 128, false, place);
 }
 
+#[derive(Clone, Copy, Debug, PartialEq, Eq)]
 pub struct Blake2b {}
 
 impl Compression for Blake2b {

@@ -5,6 +5,8 @@ ghost use Rattle.compression.specs.Kinds.{kind_numbered};
 use crate::{Blake2b, Compression, Sha256};
 use refusal::Refusal;
 
+// A `match` on it picks the instance of a generic function. It stands where it is needed: one place for all such functions
+// would take a trait with a method for each.
 #[derive(Clone, Copy, Debug, PartialEq, Eq)]
 pub enum Kind {
     Sha256,

@@ -32,7 +32,7 @@ fn as_published()
     ensures example { Sha256Example }
 {}
 
-// The constant of the round t.
+// The constant of the round t. By a function, so that a proof has the table's name and not its 64 numbers.
 fn constant(t: usize) -> u32
     requires { t < 64 }
     ensures { result ≡ slice_index constants t }
@@ -40,7 +40,7 @@ fn constant(t: usize) -> u32
     K[t]
 }
 
-// The constant of the round t, where there is such a round. Each constant is from the cube root of its prime, as the
+// The constant of the round t, where there is such a round. (As `get` and `copied` it would need a proof file.) Each constant is from the cube root of its prime, as the
 // first hash value is from square roots; the primes are the first 64; and the definition that the compression is proved
 // to meet gives the published example.
 pub fn round_constant(t: usize) -> Option<u32>
@@ -269,7 +269,7 @@ fn hash_block(chaining: &[u8], block: &[u8], place: &mut [u8])
     store(&add_up(v, all_rounds(v, &w)), place);
 }
 
-// The same, of the block that a key and a message block make.
+// The same, of the block that a key and a message block make. BLAKE2b's differs in all but its shape.
 fn hash_keyed(key: &[u8], chaining: &[u8], message: &[u8], place: &mut [u8])
     requires { (length key.now ≤ 32) × ((length chaining.now ≡ 32) × ((length message.now ≡ 32) × (length place.old ≡ 32))) }
     ensures { place.new ≡ sha256 key.now chaining.now message.now }
@@ -279,6 +279,7 @@ fn hash_keyed(key: &[u8], chaining: &[u8], message: &[u8], place: &mut [u8])
     hash_block(chaining, &block, place);
 }
 
+#[derive(Clone, Copy, Debug, PartialEq, Eq)]
 pub struct Sha256 {}
 
 impl Compression for Sha256 {

@@ -40,7 +40,7 @@ impl Word for u32 {
     ghost sized = { λ x. Prim.search rules };
 
     fn read(bytes: &[u8]) -> u32 {
-        u32::from_be_bytes([bytes[0], bytes[1], bytes[2], bytes[3]])
+        u32::from_be_bytes(*bytes.first_chunk().unwrap())
     }
 
     fn write(self, place: &mut [u8]) {
@@ -61,9 +61,7 @@ impl Word for u64 {
     ghost sized = { λ x. Prim.search rules };
 
     fn read(bytes: &[u8]) -> u64 {
-        u64::from_le_bytes([
-            bytes[0], bytes[1], bytes[2], bytes[3], bytes[4], bytes[5], bytes[6], bytes[7],
-        ])
+        u64::from_le_bytes(*bytes.first_chunk().unwrap())
     }
 
     fn write(self, place: &mut [u8]) {
@@ -71,7 +69,8 @@ impl Word for u64 {
     }
 }
 
-// Fills `out` with the words at the front of `bytes`.
+// Fills `out` with the words at the front of `bytes`. The words' places are worked out: of what is written through
+// `iter_mut().zip(..)` a proof knows nothing.
 pub(crate) fn load<W: Word>(bytes: &[u8], out: &mut [W])
     requires { W.SIZE * length out.old ≤ length bytes.now }
     ensures { out.new ≡ words W.read W.SIZE (length out.old) bytes.now }
@@ -82,7 +81,7 @@ pub(crate) fn load<W: Word>(bytes: &[u8], out: &mut [W])
     }
 }
 
-// Fills `place` with the bytes of eight words.
+// Fills `place` with the bytes of eight words, their places worked out as in `load`.
 pub(crate) fn store<W: Word>(ws: &[W; 8], place: &mut [u8])
     requires { length place.old ≡ 8 * W.SIZE }
     ensures { place.new ≡ flat_map W.written ws.now }

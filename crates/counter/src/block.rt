@@ -12,7 +12,7 @@ ghost use Rattle.counter.specs.Inside.{Judges};
 use crate::cell::{CodeCell, RegisterCell, Status};
 use crate::opening::Opening;
 use crate::slip::Slip;
-use crate::station::{Station, lacking};
+use crate::station::lacking;
 use crate::tables::Tables;
 use compression::Compression;
 use refusal::Refusal;
@@ -43,6 +43,7 @@ impl<'k, 'c, 'r, 's> Block<'k, 'c, 'r, 's> {
         if station == 0 || station > u32::from(self.t.stations) {
             return Err(Refusal::UnknownStation);
         }
+        // `as`, here and in the calls: no `From` takes a `u32` to a `usize`, and the other casts narrow what was tested
         Ok(station as usize)
     }
 
@@ -113,7 +114,8 @@ impl<'k, 'c, 'r, 's> Block<'k, 'c, 'r, 's> {
         Ok(())
     }
 
-    // An accepted reserve: answers how many codes are still free.
+    // An accepted reserve: answers how many codes are still free. It and `take_back` differ in the way that codes go, and in plus and
+    // minus; moving them is one function.
     fn hand_out(&mut self, station: u32, count: u32) -> u32
         requires { Judges (view self.old.t) (Reserve station count) (Ok tt) }
         ensures { Step (view self.old.t) (Reserve station count) (Ok result) (view self.new.t) }
@@ -201,9 +203,9 @@ impl<'k, 'c, 'r, 's> Block<'k, 'c, 'r, 's> {
     pub fn tally(&self, station: u32) -> Result<(u32, u32), Refusal>
         ensures { Looks (view self.now.t) (λ o l. tally_of o l station) result }
     {
-        let k = self.known(station)?;
-        let taken = self.t.seat(k).taken;
-        let lacks = self.t.table[k - 1].lacks(taken);
+        let station = self.known(station)?;
+        let taken = self.t.seat(station).taken;
+        let lacks = self.t.table[station - 1].lacks(taken);
         Ok((u32::from(taken), u32::from(lacks)))
     }
 
@@ -212,11 +214,8 @@ impl<'k, 'c, 'r, 's> Block<'k, 'c, 'r, 's> {
         ensures { Looks (view self.now.t) (λ o l. latest_of o l station) result }
     {
         let newest = self.t.seat(self.known(station)?).newest;
-        if newest == 0 {
-            Ok(None)
-        } else {
-            Ok(Some(u32::from(newest)))
-        }
+        // 0 ends a chain, as in the cells
+        Ok((newest != 0).then_some(u32::from(newest)))
     }
 
     // Ends the block and gives back what was lent to it.

@@ -71,6 +71,7 @@ impl RegisterCell {
     };
 }
 
+// As for a code's cell: each impl names the field of its own record.
 impl Linked for RegisterCell {
     ghost link = { λ c. c.next };
 

@@ -42,7 +42,7 @@ impl Seat {
 // What a block holds: what it was opened with, the cells lent to it, and counts, so that no call has to scan the cells.
 #[derive(Drop)]
 pub struct Tables<'k, 'c, 'r, 's> {
-    // the kind of the compression it was opened with
+    // the kind of the compression it was opened with: a number, since anybody may write a compression
     kind: u8,
     pub(crate) site: u32,
     pub(crate) number: u32,
@@ -110,6 +110,7 @@ impl<'k, 'c, 'r, 's> Tables<'k, 'c, 'r, 's> {
             register,
             stations,
         } = opening;
+        // taken apart, since the check does not follow two fields of one record that are lent at once
         let verdict = check::<C>(site, block, key, codes, register, stations);
         let opening = Opening {
             site,
@@ -187,7 +188,7 @@ impl<'k, 'c, 'r, 's> Tables<'k, 'c, 'r, 's> {
         kept.count += 1;
     }
 
-    // Moves the first code of one row to the front of another.
+    // Moves the first code of one row to the front of another. `kept` is no invariant of the tables: the steps in here break it.
     fn shift(&mut self, from: u16, to: u16)
         requires apart { from ≢ to }
         requires from { from ≤ self.old.stations }

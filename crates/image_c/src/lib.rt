@@ -6,10 +6,11 @@ ghost use Rattle.image.specs.Open.{answer_by_kind, place_by_kind};
 ghost use Rattle.image_c.specs.Host.{by_numbers};
 
 use image::open_image_by_kind;
+use refusal::code;
 
 // What opening answers, by numbers: 0 and the length of the message, or the number of the refusal and 0.
 #[repr(C)]
-#[derive(Clone, Copy)]
+#[derive(Clone, Copy, Debug, PartialEq, Eq)]
 pub struct HurbezkiOpened {
     pub refusal: u32,
     pub length: u32,
@@ -32,14 +33,10 @@ pub extern "C" fn hurbezki_open_image(
     ensures place { place.new ≡ place_by_kind kind key.now image.now place.old }
 {
     answers_are_short(kind, key, image, place);
-    match open_image_by_kind(kind, key, image, place) {
-        Ok(length) => HurbezkiOpened {
-            refusal: 0,
-            length: length as u32,
-        },
-        Err(refusal) => HurbezkiOpened {
-            refusal: u32::from(refusal),
-            length: 0,
-        },
+    let answer = open_image_by_kind(kind, key, image, place);
+    let length = answer.unwrap_or(0);
+    HurbezkiOpened {
+        refusal: code(answer),
+        length: length as u32,
     }
 }

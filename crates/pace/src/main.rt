@@ -65,7 +65,7 @@ fn once<F: Fn(&mut Block) -> Result<(), Refusal>>(
     let start = Instant::now(rt)?;
     let done = work(&mut block);
     let spent = start.elapsed(rt)?;
-    done.ok().context("a call was refused")?;
+    done.context("a call was refused")?;
     Ok(spent.as_nanos())
 }
 

@@ -31,7 +31,7 @@ impl<'k, C: Compression> Key<'k, C> {
         requires { (length chaining.now ≡ C.Compression.BLOCK_LEN) × (length message.now ≡ C.Compression.BLOCK_LEN) × (length place.old ≡ C.Compression.BLOCK_LEN) }
         ensures { place.new ≡ C.Compression.meaning self.now.bytes.now chaining.now message.now }
     {
-        let _ = C::compress(self.bytes, chaining, message, place);
+        C::compress(self.bytes, chaining, message, place).unwrap();
     }
 
     // Compresses a message block into the chaining value, with the mask added to it.

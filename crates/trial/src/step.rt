@@ -5,7 +5,7 @@ ghost use Rattle.trial.specs.Answer.{printed, DrawAndVoid, Stepped};
 
 use crate::request::Request;
 use counter::Block;
-use refusal::Refusal;
+use refusal::{Refusal, code};
 use std::fmt;
 
 // What a request is answered: its letter, and what the block answered.
@@ -19,10 +19,8 @@ impl fmt::Display for Answer {
     ghost output = { λ a. Some (printed a) };
 
     fn fmt<W: fmt::Write>(&self, f: &mut fmt::Formatter<W>) -> fmt::Result {
-        let (number, value) = match self.outcome {
-            Ok(value) => (0, value),
-            Err(refusal) => (u32::from(refusal), 0),
-        };
+        let number = code(self.outcome);
+        let value = self.outcome.unwrap_or(0);
         write!(f, "{} {number} {value}", self.letter)
     }
 }

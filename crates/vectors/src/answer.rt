@@ -7,7 +7,7 @@ use crate::hex::Hex;
 use crate::request::{Compress, Image, Look, Open, Request, Seal, Unread, parse};
 use crate::seal::{opened, sealed};
 use image::{ImageReader, open_image_by_kind};
-use refusal::Refusal;
+use refusal::{Refusal, code};
 use std::alloc::{AllocError, Global};
 
 // Tags of more than 64 bytes are refused, so one of 65 stands for all of them.
@@ -36,10 +36,7 @@ pub(crate) fn answer(heap: Global, line: &[u8]) -> Result<String, AllocError> {
 fn in_numbers(answer: Result<usize, Refusal>) -> (u32, usize)
     ensures { result ≡ in_numbers answer }
 {
-    match answer {
-        Ok(n) => (0, n),
-        Err(refusal) => (u32::from(refusal), 0),
-    }
+    (code(answer), answer.unwrap_or(0))
 }
 
 fn answer_compress(heap: Global, request: &Compress) -> Result<String, AllocError> {
@@ -52,6 +49,7 @@ fn answer_compress(heap: Global, request: &Compress) -> Result<String, AllocErro
         &mut place,
     );
     match answer {
+        // the contract says what stands in the first n bytes, and not that n is a block's length
         Ok(n) => format!(in heap; "compress 0 {}", Hex(&place[..n.min(64)])),
         Err(refusal) => format!(in heap; "compress {refusal} -"),
     }

@@ -6,6 +6,7 @@ use crate::request::Unread;
 use std::alloc::Global;
 use std::fmt;
 
+// No `to_digit(16)`: it takes upper case.
 fn nibble(digit: u8) -> Result<u8, Unread> {
     match digit {
         b'0'..=b'9' => Ok(digit - b'0'),
