@@ -48,8 +48,8 @@ fn as_published()
     ensures example { Blake2bExample }
 {}
 
-// The word i of the initial value, where there is one. (As `get` and `copied` it would need a proof file.) Each word is from the square root of its prime, and the
-// definition that F is proved to meet gives the published example.
+// The word i of the initial value, where there is one. (As `get` and `copied` it would need a proof file.) Each word is from
+// the square root of its prime, and the definition that F is proved to meet gives the published example.
 pub fn initial_value(i: usize) -> Option<u64>
     ensures value { result ≡ (if nat_lt i 8 then Some (slice_index iv i) else None) }
     ensures roots { IVFromSquareRoots }
@@ -183,6 +183,7 @@ fn fold(h: &[u64; 8], v: &[u64; 16]) -> [u64; 8]
     array::from_fn(|i| h[i] ^ v[i] ^ v[i + 8])
 }
 
+// F, with the standard's flag f as `last`.
 fn f(h: &[u64; 8], m: &[u64; 16], t: u128, last: bool) -> [u64; 8]
     ensures { result ≡ F h.now m.now t last }
 {

@@ -76,8 +76,8 @@ pub fn key_tested<C: Compression>(key: &[u8]) -> Result<(), Refusal>
     fits(C::SHORTEST_KEY, C::LONGEST_KEY, key)
 }
 
-// The tests of a compression, in their order: the same for every kind. It takes numbers, since the check does not follow a call of
-// an impl's method that passes the impl itself for a bound.
+// The tests of a compression, in their order: the same for every kind. It takes numbers, since the check does not follow a
+// call of an impl's method that passes the impl itself for a bound.
 pub(crate) fn tested(
     b: usize,
     shortest: usize,

@@ -40,9 +40,9 @@ fn constant(t: usize) -> u32
     K[t]
 }
 
-// The constant of the round t, where there is such a round. (As `get` and `copied` it would need a proof file.) Each constant is from the cube root of its prime, as the
-// first hash value is from square roots; the primes are the first 64; and the definition that the compression is proved
-// to meet gives the published example.
+// The constant of the round t, where there is such a round. (As `get` and `copied` it would need a proof file.) Each constant
+// is from the cube root of its prime, as the first hash value is from square roots; the primes are the first 64; and the
+// definition that the compression is proved to meet gives the published example.
 pub fn round_constant(t: usize) -> Option<u32>
     ensures value { result ≡ (if nat_lt t 64 then Some (slice_index constants t) else None) }
     ensures roots { KFromCubeRoots }

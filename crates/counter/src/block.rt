@@ -53,6 +53,7 @@ impl<'k, 'c, 'r, 's> Block<'k, 'c, 'r, 's> {
         requires known { k ≤ self.now.t.stations }
         ensures { Looks (view self.now.t) (λ o l. others_lack o l k) result }
     {
+        // `as`: by `usize::from` the proof would have to turn the count back
         let many = self.t.stations as usize;
         let all = lacking(&self.t.table[..many], &self.t.seats[1..]);
         let own = self.t.table[k - 1].lacks(self.t.seat(k).taken);
@@ -114,8 +115,8 @@ impl<'k, 'c, 'r, 's> Block<'k, 'c, 'r, 's> {
         Ok(())
     }
 
-    // An accepted reserve: answers how many codes are still free. It and `take_back` differ in the way that codes go, and in plus and
-    // minus; moving them is one function.
+    // An accepted reserve: answers how many codes are still free. It and `take_back` differ in the way that codes go, and in
+    // plus and minus; moving them is one function.
     fn hand_out(&mut self, station: u32, count: u32) -> u32
         requires { Judges (view self.old.t) (Reserve station count) (Ok tt) }
         ensures { Step (view self.old.t) (Reserve station count) (Ok result) (view self.new.t) }

@@ -60,8 +60,8 @@ fn unfit(n: usize, stations: &[Station]) -> bool
     some_breaks(n, stations) || guaranteed(stations) > n
 }
 
-// Answers the first refusal that applies to opening such a block. It changes nothing, and so takes cells that are lent to others
-// as well, where an `Opening` has them alone.
+// Answers the first refusal that applies to opening such a block. It changes nothing, and so takes cells that are lent to
+// others as well, where an `Opening` has them alone.
 pub fn check<C: Compression>(
     site: u32,
     block: u32,

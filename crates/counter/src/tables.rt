@@ -54,7 +54,8 @@ pub struct Tables<'k, 'c, 'r, 's> {
     pub(crate) stations: u16,
     // by row number
     pub(crate) rows: [Row; 9],
-    // by station number, entry 0 nobody's; apart from the rows, since row 0 is no station's, and the seats stay while codes move
+    // by station number, entry 0 nobody's; apart from the rows, since row 0 is no station's, and the seats stay while codes
+    // move
     pub(crate) seats: [Seat; 9],
 }
 
@@ -188,7 +189,8 @@ impl<'k, 'c, 'r, 's> Tables<'k, 'c, 'r, 's> {
         kept.count += 1;
     }
 
-    // Moves the first code of one row to the front of another. `kept` is no invariant of the tables: the steps in here break it.
+    // Moves the first code of one row to the front of another. `kept` is no invariant of the tables: the steps in here break
+    // it.
     fn shift(&mut self, from: u16, to: u16)
         requires apart { from ≢ to }
         requires from { from ≤ self.old.stations }

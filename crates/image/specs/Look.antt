@@ -46,7 +46,7 @@ shown_in I = record { header_at = header_at I; header = header_of I; ciphertext_
 
 -- What the parts that a look answers are: their places and their bytes.
 abbrev pub shown_parts : Parts → Shown
-shown_parts p = record { header_at = p.header_at; header = p.header.now; ciphertext_at = p.ciphertext_at; ciphertext = p.ciphertext.now; tag_at = p.tag_at; tag = p.tag.now }
+shown_parts p = record { header_at = p.header.at; header = p.header.bytes.now; ciphertext_at = p.ciphertext.at; ciphertext = p.ciphertext.bytes.now; tag_at = p.tag.at; tag = p.tag.bytes.now }
 
 abbrev pub shown : Result Parts Refusal → Result Shown Refusal
 shown (Ok p) = Ok (shown_parts p)

@@ -10,4 +10,4 @@ mod reader;
 pub use build::build_image;
 pub use label::Label;
 pub use open::{open_image, open_image_by_kind};
-pub use reader::{ImageReader, Parts};
+pub use reader::{ImageReader, Part, Parts};

@@ -23,12 +23,19 @@ fn open_named<C: Compression>(key: &[u8], image: &[u8], place: &mut [u8]) -> Res
     key_tested::<C>(key)?;
     look_tested(u32::from(C::KIND), image)?;
     let parts = cut(image);
-    if place.len() < parts.ciphertext.len() {
+    if place.len() < parts.ciphertext.bytes.len() {
         return Err(Refusal::PlaceLength);
     }
     let nonce = &image[SITE_AT..STATION_AT];
-    let data = &image[..parts.ciphertext_at];
-    open::<C>(key, nonce, data, parts.ciphertext, parts.tag, place)
+    let data = &image[..parts.ciphertext.at];
+    open::<C>(
+        key,
+        nonce,
+        data,
+        parts.ciphertext.bytes,
+        parts.tag.bytes,
+        place,
+    )
 }
 
 // Opens a card image: looks at it for the compression's kind, checks its tag under the key, writes the message to the front of

@@ -12,15 +12,19 @@ use crate::layout::{
 use compression::Kind;
 use refusal::Refusal;
 
-// The parts of an image behind its fixed bytes, each with its place in the image.
+// A part of an image: where it begins, and its bytes.
+#[derive(Clone, Copy, Debug, PartialEq, Eq)]
+pub struct Part<'a> {
+    pub at: usize,
+    pub bytes: &'a [u8],
+}
+
+// The parts of an image behind its fixed bytes.
 #[derive(Clone, Copy, Debug, PartialEq, Eq)]
 pub struct Parts<'a> {
-    pub header_at: usize,
-    pub header: &'a [u8],
-    pub ciphertext_at: usize,
-    pub ciphertext: &'a [u8],
-    pub tag_at: usize,
-    pub tag: &'a [u8],
+    pub header: Part<'a>,
+    pub ciphertext: Part<'a>,
+    pub tag: Part<'a>,
 }
 
 // The lengths in the image do not add up.
@@ -62,12 +66,18 @@ pub(crate) fn cut(image: &[u8]) -> Parts<'_>
     let ciphertext_at = header_at + usize::from(image[HEADER_LEN_AT]);
     let tag_at = ciphertext_at + usize::from(image[MESSAGE_LEN_AT]);
     Parts {
-        header_at,
-        header: &image[header_at..ciphertext_at],
-        ciphertext_at,
-        ciphertext: &image[ciphertext_at..tag_at],
-        tag_at,
-        tag: &image[tag_at..tag_at + TAG_LEN],
+        header: Part {
+            at: header_at,
+            bytes: &image[header_at..ciphertext_at],
+        },
+        ciphertext: Part {
+            at: ciphertext_at,
+            bytes: &image[ciphertext_at..tag_at],
+        },
+        tag: Part {
+            at: tag_at,
+            bytes: &image[tag_at..tag_at + TAG_LEN],
+        },
     }
 }
 
@@ -79,6 +89,7 @@ fn parts_are_the_image(kind: u32, image: &[u8])
 // A reader of the image of one card, for one kind.
 #[derive(Clone, Copy, Debug, PartialEq, Eq)]
 pub struct ImageReader<'a> {
+    // a number that need not be a kind's: it is refused after the image's length
     kind: u32,
     bytes: &'a [u8],
 }

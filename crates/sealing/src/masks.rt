@@ -10,11 +10,12 @@ use crate::doubling::double_block;
 use crate::key::Key;
 use compression::Compression;
 
-// A key and its masks. Of each mask the first bytes count, as many as a block has.
+// A key and its masks. Of each mask the first bytes count, as many as a block has: here, and wherever a block is kept in 64
+// bytes, since no array's length can be a constant of the trait.
 #[derive(Drop)]
 pub(crate) struct Masks<'k, C: Compression> {
     pub(crate) key: Key<'k, C>,
-    // the highest block number that the rows serve, which no code reads
+    // the highest block number that the rows serve: no code reads it, but a fact of the type can speak of fields alone
     most: usize,
     // L⋆
     pub(crate) once: [u8; 64],
@@ -80,7 +81,7 @@ impl<'k, C: Compression> Masks<'k, C> {
         ensures { to.new ≡ to.old ⊕ L C.Compression.BLOCK_LEN (C.Compression.meaning self.now.key.bytes.now) (ntz number) }
     {
         let b = to.len();
-        // a name of their own: an element of a field beside a reference cannot be lent in one step yet
+        // by a name of their own: the check does not yet follow an element that is lent out of a field beside a reference
         let rows = &self.rows;
         let k = number.trailing_zeros() as usize;
         add(to, &rows[k][..b]);

@@ -66,6 +66,7 @@ impl<C: Compression> Key<'_, C> {
     {
         let b = C::BLOCK_LEN;
         let mut bits = [0u8; 64];
+        // `as`, since no `From` takes a `usize` to a `u64`
         put_number(8 * tag_len as u64, &mut bits[..b]);
         self.compress(mask, &bits[..b], chaining);
     }
@@ -111,8 +112,8 @@ impl<C: Compression> Key<'_, C> {
     }
 }
 
-// The mask and the chaining value stay two slices: as fields of one struct they cannot yet be lent side by side, one to read
-// and one to write.
+// The mask and the chaining value stay two slices: as fields of one record the check does not follow them when one is read and
+// one written, and to name each borrow first takes more lines than two parameters.
 impl<C: Compression> Masks<'_, C> {
     // One block of a text that is not the last, whose number is `number`: writes the other text's block, adds the next mask,
     // and moves the chaining value on.
@@ -136,8 +137,8 @@ impl<C: Compression> Masks<'_, C> {
         self.key.fold(mask, way.message(input, output), chaining);
     }
 
-    // All blocks of a text but the last: writes the other text's blocks, and leaves the mask and the chaining value of the last.
-    // By index, since a proof knows no byte that was written through `chunks_exact_mut`.
+    // All blocks of a text but the last: writes the other text's blocks, and leaves the mask and the chaining value of the
+    // last. By index, since a proof knows no byte that was written through `chunks_exact_mut`.
     fn cross_all(
         &self,
         way: Way,

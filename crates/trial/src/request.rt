@@ -31,7 +31,7 @@ fn number(s: &[u8]) -> u32
     requires { length s.now ≤ 5 }
     ensures { result ≡ value s.now }
 {
-    // no `fold`: its closure would have to show that the sum fits whatever the total so far
+    // no `fold`: that its closure may be called at each total takes more to show than this loop does
     let mut n = 0;
     for b in s {
         n = n * 10 + u32::from(b.saturating_sub(b'0'));
@@ -62,6 +62,7 @@ fn last_field(s: &[u8]) -> Option<u32>
     rest.is_empty().then_some(n)
 }
 
+// What a line asks, or None where it has none of the forms.
 pub(crate) fn parse(line: &[u8]) -> Option<Request>
     ensures { result ≡ parsed line.now }
 {

@@ -33,6 +33,7 @@ fn draw_and_void(block: &mut Block<'_, '_, '_, '_>, station: u32) -> Result<u32,
     block.void(slip)
 }
 
+// Makes the calls that a line asks for, and answers them.
 pub(crate) fn step(block: &mut Block<'_, '_, '_, '_>, request: Option<Request>) -> Answer
     ensures { Stepped (view block.old.t) request result (view block.new.t) }
 {

@@ -64,6 +64,7 @@ fn answer_double(heap: Global, mut string: Vec<u8>) -> Result<String, AllocError
 
 fn answer_seal(heap: Global, request: &Seal) -> Result<String, AllocError> {
     let mut ciphertext = vec![in heap; 0u8; request.message.len()]?;
+    // `as`, since no `From` takes a `u32` to a `usize`
     let tag_len = request.tag_len.min(MOST_TAG) as usize;
     let mut tag = vec![in heap; 0u8; tag_len]?;
     let answer = sealed(
@@ -106,12 +107,12 @@ fn answer_look(heap: Global, request: &Look) -> Result<String, AllocError> {
     match ImageReader::new(request.kind, request.image.as_slice()).look() {
         Ok(parts) => format!(in heap;
             "look 0 {}:{} {}:{} {}:{}",
-            parts.header_at,
-            Hex(parts.header),
-            parts.ciphertext_at,
-            Hex(parts.ciphertext),
-            parts.tag_at,
-            Hex(parts.tag)
+            parts.header.at,
+            Hex(parts.header.bytes),
+            parts.ciphertext.at,
+            Hex(parts.ciphertext.bytes),
+            parts.tag.at,
+            Hex(parts.tag.bytes)
         ),
         Err(refusal) => format!(in heap; "look {refusal} - - -"),
     }
