@@ -89,8 +89,19 @@ fn answer_seal(heap: Global, request: &Seal) -> Result<String, AllocError> {
     }
 }
 
+// The line of a call that opened into a place.
+fn opening_line(
+    heap: Global,
+    name: &str,
+    answer: Result<usize, Refusal>,
+    place: &[u8],
+) -> Result<String, AllocError> {
+    let (number, n) = in_numbers(answer);
+    format!(in heap; "{name} {number} {n} {}", Hex(place))
+}
+
 fn answer_open(heap: Global, mut request: Open) -> Result<String, AllocError> {
-    let (number, n) = in_numbers(opened(
+    let answer = opened(
         request.kind,
         request.key.as_slice(),
         request.nonce.as_slice(),
@@ -98,8 +109,8 @@ fn answer_open(heap: Global, mut request: Open) -> Result<String, AllocError> {
         request.ciphertext.as_slice(),
         request.tag.as_slice(),
         request.place.as_mut_slice(),
-    ));
-    format!(in heap; "open {number} {n} {}", Hex(request.place.as_slice()))
+    );
+    opening_line(heap, "open", answer, request.place.as_slice())
 }
 
 // Each part of an image: where it begins, and its bytes.
@@ -119,11 +130,11 @@ fn answer_look(heap: Global, request: &Look) -> Result<String, AllocError> {
 }
 
 fn answer_image(heap: Global, mut request: Image) -> Result<String, AllocError> {
-    let (number, n) = in_numbers(open_image_by_kind(
+    let answer = open_image_by_kind(
         request.kind,
         request.key.as_slice(),
         request.image.as_slice(),
         request.place.as_mut_slice(),
-    ));
-    format!(in heap; "image {number} {n} {}", Hex(request.place.as_slice()))
+    );
+    opening_line(heap, "image", answer, request.place.as_slice())
 }
