@@ -1,18 +1,7 @@
-use Rattle.std.proofs.Common.{◌≡◌, ℕ, ◌+◌, ◌-◌, List, ◌++◌, length, drop, replicate, ap, ◌∙◌, ap₂, arith, rules}
+use Rattle.std.proofs.Common.{◌≡◌, ℕ, ◌+◌, ◌-◌, List, ◌++◌, length, drop, replicate, ap, ◌∙◌, ap₂, arith}
 use borrow.Rule.Slice.PartMut.{put_mid, post_of}
-use lib.ListN.{length-replicate}
-use Rattle.std.proofs.lemmas.List.{places}
 use Rattle.compression.proofs.Keyed.{keyed_is}
 use Rattle.compression.proofs.words.keyed.Goals as goal
-
-long : (xs : List ℕ) (n : ℕ) → xs ≡ replicate n 0 → length xs ≡ n
-long xs n e = ap length e ∙ length-replicate n 0
-
-pub slice_bounds-copy_from_slice-end : goal.slice_bounds-copy_from_slice-end
-slice_bounds-copy_from_slice-end c = let l = long _ _ c.requires.1 in search rules
-
-pub slice_bounds-copy_from_slice-end-2 : goal.slice_bounds-copy_from_slice-end-2
-slice_bounds-copy_from_slice-end-2 c = let l = long _ _ c.requires.1 in search (rules, places)
 
 pub returns : goal.returns
 returns c =
