@@ -3,7 +3,6 @@ use Rattle.std.proofs.Common.{◌≡◌, ℕ, zero, suc, ◌<◌, ◌≤◌, Lis
 use mathlib.Core.List.{zip_with}
 use lib.Bits.{bit_xor, xor_assoc, xor_self, xor_zero_l, xor_lt}
 use Rattle.std.specs.Int.Digits.{AllBelowBase}
-use Rattle.std.proofs.lemmas.List.{append-nil, take_all, drop_all}
 use Rattle.sealing.specs.Strings.{◌⊕◌}
 
 -- as long as the second, where the first is no shorter
@@ -50,9 +49,6 @@ sum_more (z ∷ place) [] ys i h e f = absurd (omega arith)
 sum_more (z ∷ place) (x ∷ xs) [] i h e f = absurd (omega arith)
 sum_more (z ∷ place) (x ∷ xs) (y ∷ ys) zero h e f = refl
 sum_more (z ∷ place) (x ∷ xs) (y ∷ ys) (suc i) h e f = ap (◌∷◌ (bit_xor x y)) (sum_more place xs ys i (omega arith) (omega arith) (omega arith))
-
-pub sum_all : (place xs ys : List ℕ) → length place ≡ length xs → length place ≡ length ys → partly_sum place xs ys (length place) ≡ xs ⊕ ys
-sum_all place xs ys e f = rw (take_all (length place) xs (omega arith), take_all (length place) ys (omega arith), drop_all (length place) place (omega arith)) (append-nil (xs ⊕ ys))
 
 -- the next byte of a string to which another is added
 pub next_byte : (xs ys : List ℕ) (i : ℕ) → i < length xs → length xs ≡ length ys → get_or (partly_sum xs xs ys i) i 0 ≡ get_or xs i 0

@@ -1,7 +1,7 @@
 use mathlib.Core.List.{zip_with}
-use Rattle.std.proofs.Common.{◌≡◌, ℕ, ◌<◌, List, length, get_or, set, refl, add-one, ap, ap₂, ◌∙◌, arith}
+use Rattle.std.proofs.Common.{ℕ, ◌<◌, List, length, get_or, set, refl, add-one, ap, ap₂, ◌∙◌, arith}
 use lib.Bits.{bit_xor}
-use Rattle.sealing.proofs.Sums.{sum_more, sum_all, next_byte}
+use Rattle.sealing.proofs.Sums.{sum_more, next_byte}
 use Rattle.sealing.proofs.bytes.add.Goals as goal
 
 pub loop-i-init : goal.loop-i-init
@@ -17,8 +17,3 @@ loop-i-preserved c =
     let h : i < length xs = omega arith in
     rw add-one (ap₂ (λ zs x. set zs i (bit_xor x (get_or ys i 0))) inv (ap (λ zs. get_or zs i 0) inv ∙ next_byte xs ys i h c.requires)
     ∙ sum_more xs xs ys i h refl c.requires)
-
-pub returns : goal.returns
-returns c =
-    let all : c.loop-i.i ≡ length c.args.to.now = omega arith in
-    simp (c.loop-i.invariant, all) (sum_all _ _ _ refl c.requires)

@@ -1,6 +1,6 @@
 use mathlib.Core.List.{zip_with}
-use Rattle.std.proofs.Common.{◌≡◌, ◌<◌, length, refl, add-one, arith}
-use Rattle.sealing.proofs.Sums.{sum_more, sum_all}
+use Rattle.std.proofs.Common.{◌<◌, length, refl, add-one, arith}
+use Rattle.sealing.proofs.Sums.{sum_more}
 use Rattle.sealing.proofs.bytes.sum.Goals as goal
 
 pub loop-i-init : goal.loop-i-init
@@ -11,8 +11,3 @@ pub loop-i-preserved : goal.loop-i-preserved
 loop-i-preserved c =
     let h : c.loop-i.i < length c.args.place.now = omega arith in
     simp (c.loop-i.invariant, add-one) (sum_more _ _ _ _ h c.requires.0 c.requires.1)
-
-pub returns : goal.returns
-returns c =
-    let all : c.loop-i.i ≡ length c.args.place.now = omega arith in
-    simp (c.loop-i.invariant, all) (sum_all _ _ _ c.requires.0 c.requires.1)

@@ -17,9 +17,6 @@ overflow_sub-taken c =
     let same = ap (λ (ts : List ℕ). get_or ts c.args.station 0) c.shift_many.ensures.taken in
     omega (arith, give_safe (view c.args.self.now.t) c.args.self.now.sound c.args.station c.args.count c.requires)
 
-pub set_taken-requires : goal.set_taken-requires
-set_taken-requires c = omega (arith, give_safe (view c.args.self.now.t) c.args.self.now.sound c.args.station c.args.count c.requires)
-
 pub invariant_of-self : goal.invariant_of-self
 invariant_of-self c = record { sound = step_sound (view c.args.self.now.t) (GiveBack c.args.station c.args.count) _ _ c.args.self.now.sound (give_steps (view c.args.self.now.t) (view c.shift_many.new.self) (view c.set_taken.new.self) c.args.station c.args.count _ _ c.shift_many.ensures.taken c.set_taken.ensures refl (ap (λ m. m - c.args.count) c.seat.ensures.taken) c.requires c.shift_many.ensures.moves) }
 

@@ -1,7 +1,6 @@
 -- One code's move. Assumes nothing.
-use Rattle.std.proofs.Common.{◌≡◌, ℕ, ◌+◌, ◌≤◌, List, map, length, get_or, sym, ap, ◌∙◌, subst, arith}
+use Rattle.std.proofs.Common.{◌≡◌, ℕ, ◌+◌, ◌≤◌, map, length, get_or, sym, ap, ◌∙◌, subst, arith}
 use Rattle.chain.specs.Chain.{next_of}
-use Rattle.counter.specs.declared.tables.Row.{Row}
 use Rattle.counter.specs.Ledger.{move}
 use Rattle.counter.specs.Shown.{State, view, no_row}
 use Rattle.counter.specs.Inside.{Matches, Kept}
@@ -9,18 +8,8 @@ use Rattle.counter.proofs.Facts.{few, row_small, nine_rows, head_low, head_high,
 use Rattle.counter.proofs.Moves.{next_number, other_row, shift_matches, shifted_fewer, popped_pair, popped_none, took}
 use Rattle.counter.proofs.tables.Tables.shift.Goals as goal
 
-pub bounds-self-from : goal.bounds-self-from
-bounds-self-from c = omega (arith, few (view c.args.self.now) c.requires.kept, c.requires.from)
-
 pub bounds-self-to : goal.bounds-self-to
 bounds-self-to c = omega (arith, few (view c.args.self.now) c.requires.kept, c.requires.to)
-
-pub leave-requires : goal.leave-requires
-leave-requires c =
-    let s = view c.args.self.now in
-    let same : (view c.mark.new.self).rows ≡ s.rows = ap (λ (u : State). u.rows) c.mark.ensures in
-    let row = ap (λ (rs : List Row). (get_or rs c.args.from no_row).count) same in
-    record { known = omega (arith, few s c.requires.kept, c.requires.from); some = omega (arith, c.requires.some) }
 
 pub join-requires : goal.join-requires
 join-requires c =
