@@ -97,11 +97,20 @@ impl<'a> Fields<'a> {
         decode(self.heap, self.next()?)
     }
 
-    fn end(&mut self) -> Result<(), Unread> {
-        match self.left.next() {
-            None => Ok(()),
-            Some(_) => Err(Unread::NoRequest),
+    // Refuses a line with more or fewer fields left. Each request asks it before it reads one, so that such a line needs no
+    // memory for their bytes.
+    fn exactly(&self, n: usize) -> Result<(), Unread> {
+        if self.left.clone()?.take(n.saturating_add(1)).count() == n {
+            Ok(())
+        } else {
+            Err(Unread::NoRequest)
         }
+    }
+
+    // The one field that is left.
+    fn last_string(&mut self) -> Result<Vec<u8>, Unread> {
+        self.exactly(1)?;
+        self.string()
     }
 }
 
@@ -117,6 +126,7 @@ fn number(field: &str) -> Option<u32> {
 
 impl Compress {
     fn read(fields: &mut Fields) -> Result<Compress, Unread> {
+        fields.exactly(4)?;
         Ok(Compress {
             kind: fields.number()?,
             key: fields.string()?,
@@ -128,6 +138,7 @@ impl Compress {
 
 impl Seal {
     fn read(fields: &mut Fields) -> Result<Seal, Unread> {
+        fields.exactly(6)?;
         Ok(Seal {
             kind: fields.number()?,
             key: fields.string()?,
@@ -141,6 +152,7 @@ impl Seal {
 
 impl Open {
     fn read(fields: &mut Fields) -> Result<Open, Unread> {
+        fields.exactly(7)?;
         Ok(Open {
             kind: fields.number()?,
             key: fields.string()?,
@@ -155,6 +167,7 @@ impl Open {
 
 impl Look {
     fn read(fields: &mut Fields) -> Result<Look, Unread> {
+        fields.exactly(2)?;
         Ok(Look {
             kind: fields.number()?,
             image: fields.string()?,
@@ -164,6 +177,7 @@ impl Look {
 
 impl Image {
     fn read(fields: &mut Fields) -> Result<Image, Unread> {
+        fields.exactly(4)?;
         Ok(Image {
             kind: fields.number()?,
             key: fields.string()?,
@@ -180,17 +194,15 @@ pub(crate) fn parse(heap: Global, line: &[u8]) -> Result<Request, Unread> {
         heap,
         left: line.split(' '),
     };
-    let request = match fields.next()? {
-        "sha256" => Request::Sha256(fields.string()?),
-        "blake2b" => Request::Blake2b(fields.string()?),
-        "compress" => Request::Compress(Compress::read(&mut fields)?),
-        "double" => Request::Double(fields.string()?),
-        "seal" => Request::Seal(Seal::read(&mut fields)?),
-        "open" => Request::Open(Open::read(&mut fields)?),
-        "look" => Request::Look(Look::read(&mut fields)?),
-        "image" => Request::Image(Image::read(&mut fields)?),
-        _ => return Err(Unread::NoRequest),
-    };
-    fields.end()?;
-    Ok(request)
+    match fields.next()? {
+        "sha256" => Ok(Request::Sha256(fields.last_string()?)),
+        "blake2b" => Ok(Request::Blake2b(fields.last_string()?)),
+        "compress" => Ok(Request::Compress(Compress::read(&mut fields)?)),
+        "double" => Ok(Request::Double(fields.last_string()?)),
+        "seal" => Ok(Request::Seal(Seal::read(&mut fields)?)),
+        "open" => Ok(Request::Open(Open::read(&mut fields)?)),
+        "look" => Ok(Request::Look(Look::read(&mut fields)?)),
+        "image" => Ok(Request::Image(Image::read(&mut fields)?)),
+        _ => Err(Unread::NoRequest),
+    }
 }

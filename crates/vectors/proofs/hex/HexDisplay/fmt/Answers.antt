@@ -1,21 +1,33 @@
-use Rattle.std.proofs.Common.{◌≡◌, ℕ, ◌+◌, ◌<◌, List, [], ◌++◌, take, length, get_or, false, Some, refl, ap, sym, ◌∙◌, arith}
-use Rattle.std.proofs.Output.{has_written_append, has_written_of_eq}
-use Rattle.std.proofs.lemmas.Fmt.{hex_byte}
-use Rattle.std.proofs.lemmas.List.{take_more, flat_map_more}
+use Rattle.std.proofs.Common.{◌≡◌, ℕ, List, ◌++◌, rules, sym, ap, ◌∙◌, append_assoc}
+use Rattle.std.proofs.Output.{has_written_append}
+use Rattle.std.proofs.lemmas.Grind.{flat_map-append}
+use Rattle.std.proofs.lemmas.Str.{IsUtf8-from_ascii}
 use Rattle.std.specs.List.{flat_map}
-use Rattle.std.specs.Fmt.{styled_digits_output}
+use Rattle.std.specs.Slice.Iter.{chunks_rest}
 use Rattle.vectors.specs.Field.{two_digits}
 use Rattle.vectors.proofs.hex.HexDisplay.fmt.Goals as goal
 
--- the text with one byte more
-more : (s : List ℕ) (i : ℕ) → i < length s → flat_map two_digits (take i s) ++ two_digits (get_or s i 0) ≡ flat_map two_digits (take (i + 1) s)
-more s i h = flat_map_more two_digits [] (take i s) (get_or s i 0) ∙ ap (flat_map two_digits) (sym (take_more s i 0 h))
+pub unwrap-requires : goal.unwrap-requires
+unwrap-requires g c =
+    let text = IsUtf8-from_ascii _ c.encode.ensures.ascii in
+    search rules
 
-pub loop-b-preserved : goal.loop-b-preserved
-loop-b-preserved g c = λ plain.
-    let i = c.loop-b.b-index in
-    let s = c.args.self.now.0.now in
-    let so_far = c.loop-b.invariant plain in
-    let byte : styled_digits_output c.in_radix.result c.laid_out.result ≡ Some (two_digits (get_or s i 0)) = rw (c.laid_out.ensures, c.in_radix.ensures) (ap Some (hex_byte false (get_or s i 0) (omega arith))) in
-    let written = rw byte at c.in_ok-write.ensures.writes in
-    has_written_of_eq _ _ _ _ _ (more s i c.loop-b-test.true) (has_written_append _ _ _ _ _ _ so_far (written so_far.plain refl))
+pub loop-chunk-preserved : goal.loop-chunk-preserved
+loop-chunk-preserved g c =
+    let chunk = c.in-Some.chunk.now in
+    let steps = c.in-Some.ensures.steps in
+    let size = c.loop-chunk.invariant.2 in
+    let shown : c.unwrap.result.now ≡ flat_map two_digits chunk = search rules in (
+      search rules,
+      tt,
+      steps.0 ∙ size,
+      λ plain.
+          let so_far = c.loop-chunk.invariant.3 plain in (
+            so_far.0 ++ c.unwrap.result.now,
+            has_written_append _ _ _ _ _ _ so_far.1 (search rules),
+            append_assoc so_far.0 _ _
+                ∙ ap (λ (t : List ℕ). so_far.0 ++ t)
+                (rw shown (sym (flat_map-append two_digits chunk (chunks_rest c.next.new.self)) ∙ ap (flat_map two_digits) (sym steps.1.0)))
+                ∙ so_far.2,
+          ),
+    )
